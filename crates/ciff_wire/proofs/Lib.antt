@@ -1,0 +1,9 @@
+pub mod Varints
+pub mod Groups
+pub mod Fronts
+pub mod Spellings
+pub mod SpellingFacts
+pub mod Fields
+pub mod Messages
+pub mod Taking
+pub mod Faults

@@ -1,0 +1,5 @@
+pub mod Varint
+pub mod Field
+pub mod Canonical
+pub mod Laws
+pub mod FieldSteps

@@ -1,0 +1,6 @@
+pub mod Exponent
+pub mod LogLaws
+pub mod PowerLaw
+pub mod Rows
+pub mod Shifts
+pub mod Step

@@ -1,0 +1,29 @@
+//! Logarithms worked out by hand, and a small table.
+use super::{LogTable, lg};
+use std::test::Fail;
+
+#[test]
+fn logarithms(rt: HostRuntime) {
+    let rows = [
+        (1u64, 0u32),
+        (2, 65536),
+        (3, 103872),
+        (5, 152169),
+        (6, 169408),
+        (7, 183982),
+        ((1 << 33) - 1, 2162687),
+    ];
+    for (x, log) in rows {
+        assert!(rt; 0 < x && x < 1 << 33);
+        assert_eq!(rt; lg(x), log, "of {x}");
+    }
+}
+
+#[test]
+fn table_of_seven(rt: HostRuntime) -> Result<(), Fail> {
+    let table = LogTable::new(rt.alloc(), 7)?;
+    assert_eq!(rt; table.top(), 7);
+    assert_eq!(rt; table.lg(1), 0);
+    assert_eq!(rt; table.lg(7), 183982);
+    Ok(())
+}

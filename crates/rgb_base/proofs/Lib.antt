@@ -1,0 +1,5 @@
+pub mod Lists
+pub mod Orders
+pub mod Rising
+pub mod Tables
+pub mod Terms
