@@ -2,14 +2,13 @@
 -- A file is the header's message, those of the lists in order, and those of the records by rising document number.
 -- Each message has its length before it as a varint. The fields of a message stand by rising number; a number that is 0,
 -- an average whose bits are all 0 and an empty text are left out.
-use Rattle.std.specs.Prelude.{ℕ, suc, ◌+◌, ◌-◌, ◌==◌, ℤ, pos, List, [], ◌∷◌, ◌++◌, length, map, flat_map, if◌then◌else◌}
+use Rattle.std.specs.Prelude.{ℕ, ◌+◌, ◌-◌, ◌==◌, ℤ, pos, List, [], ◌∷◌, ◌++◌, length, flat_map, if◌then◌else◌}
 use Rattle.ciff_wire.specs.Varint.{varint}
 use Rattle.ciff_wire.specs.Field.{Entry, as_eight, as_bytes}
 use Rattle.ciff_wire.specs.Canonical.{message_of, number_field}
 use Rattle.rgb_base.specs.declared.parts.Posting.{Posting}
 use Rattle.rgb_base.specs.declared.parts.TermList.{TermList}
 use Rattle.rgb_base.specs.declared.parts.DocRecord.{DocRecord}
-use Rattle.rgb_base.specs.declared.parts.Header.{Header}
 use Rattle.rgb_base.specs.Parts.{IndexParts}
 
 -- ---- fields

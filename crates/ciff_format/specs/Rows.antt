@@ -1,7 +1,6 @@
 -- Small indexes and their files byte by byte, by which the definition of the canonical file is checked.
-use Rattle.std.specs.Prelude.{ℕ, pos, negsuc, ℤ, List, [], ◌∷◌, codes}
+use Rattle.std.specs.Prelude.{ℕ, pos, negsuc, List, [], ◌∷◌, codes}
 use Rattle.rgb_base.specs.declared.parts.Posting.{Posting}
-use Rattle.rgb_base.specs.declared.parts.TermList.{TermList}
 use Rattle.rgb_base.specs.declared.parts.DocRecord.{DocRecord}
 use Rattle.rgb_base.specs.declared.parts.Header.{Header}
 use Rattle.rgb_base.specs.Parts.{IndexParts}
