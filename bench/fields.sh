@@ -1,15 +1,7 @@
 #!/usr/bin/env bash
-# How fast fields are taken off a large message of postings: bytes a second, and the ratio to a plain loop over the
-# same bytes in the same run. It works on a copy of the crates and leaves the repository as it is.
+# How fast fields are taken off a large message of postings, beside a plain loop over the same bytes in the same run.
 set -eu
-top=$(cd "$(dirname "$0")/.." && pwd)
-work=$(mktemp -d)
-trap 'rm -rf "$work"' EXIT
-cp -r "$top/crates" "$top/crates.txt" "$top/HANDLES" "$work"
-rm -rf "$work"/crates/*/out
-mkdir -p "$work/crates/bench_fields/src"
-echo 'bench_fields: ciff_wire' >>"$work/crates.txt"
-cat >"$work/crates/bench_fields/src/main.rt" <<'PROGRAM'
+"$(dirname "$0")/run.sh" bench_fields ciff_wire <<'PROGRAM'
 //! Takes all fields off one large message, and adds up its bytes.
 #![tactic(auto)]
 
@@ -68,5 +60,3 @@ fn main(rt: HostRuntime) -> io::Result<()> {
     Ok(())
 }
 PROGRAM
-cd "$work/crates/bench_fields"
-rt run

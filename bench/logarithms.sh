@@ -1,15 +1,7 @@
 #!/usr/bin/env bash
-# How long a table of the logarithms of 1 to 1,000,000 takes. It works on a copy of the crates and leaves the
-# repository as it is.
+# How long a table of the logarithms of 1 to 1,000,000 takes, beside the logarithms one by one in the same run.
 set -eu
-top=$(cd "$(dirname "$0")/.." && pwd)
-work=$(mktemp -d)
-trap 'rm -rf "$work"' EXIT
-cp -r "$top/crates" "$top/crates.txt" "$top/HANDLES" "$work"
-rm -rf "$work"/crates/*/out
-mkdir -p "$work/crates/bench_logarithms/src"
-echo 'bench_logarithms: fixed_log rgb_base anyhow' >>"$work/crates.txt"
-cat >"$work/crates/bench_logarithms/src/main.rt" <<'PROGRAM'
+"$(dirname "$0")/run.sh" bench_logarithms fixed_log rgb_base anyhow <<'PROGRAM'
 //! Makes a table of logarithms, and adds up single ones.
 #![tactic(auto)]
 
@@ -41,5 +33,3 @@ fn main(rt: HostRuntime) -> Result<()> {
     Ok(())
 }
 PROGRAM
-cd "$work/crates/bench_logarithms"
-rt run
