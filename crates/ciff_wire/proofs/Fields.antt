@@ -6,7 +6,8 @@ use Rattle.ciff_wire.specs.declared.field.FieldFault.{FieldFault}
 use Rattle.ciff_wire.specs.declared.field.FieldFault.TheVariants.{Zero, TooLarge, Group, Reserved, PastEnd, Long}
 use Rattle.ciff_wire.specs.Varint.{sum_of, Spells}
 use Rattle.ciff_wire.specs.Field.{Held, Entry, as_number, as_eight, as_bytes, as_four, wire_of, Holds, SpellsField, HasTag, IsCut, ContentPastEnd, ContentLong, IsFault}
-use Rattle.ciff_wire.proofs.SpellingFacts.{same_parts, same_front, read_once, not_early, not_long}
+use Rattle.ciff_wire.proofs.SpellingFacts.{same_parts, read_once, not_early, not_long}
+use Rattle.ciff_wire.proofs.Spellings.{none_is_front}
 
 -- ---- what a field holds
 
@@ -24,7 +25,7 @@ same_four c d x y v w h k e =
 
 same_number : (c d x y : List ℕ) (v w : ℕ) → Spells c v → Spells d w → c ++ x ≡ d ++ y → (c ≡ d) × (x ≡ y) × (v ≡ w)
 same_number c d x y v w h k e =
-    let same = same_front c d x y h.spelling k.spelling e in
+    let same = none_is_front c d x y h.spelling k.spelling e in
     (same.0, same.1, sym h.sum ∙ ap (λ (t : List ℕ). sum_of t % 2 ^ 64) same.0 ∙ k.sum)
 
 same_bytes : (c d x y us ws : List ℕ) → Holds c (as_bytes us) → Holds d (as_bytes ws) → c ++ x ≡ d ++ y → (c ≡ d) × (x ≡ y) × (us ≡ ws)

@@ -15,7 +15,7 @@ use crate::line::index_line;
 use crate::read::read_whole;
 use crate::small::accepted;
 use crate::status::Status;
-use rgb_host::{Failed, Host, print_all, warn_all, write_all};
+use rgb_host::{Failed, Host, created_then_appended, print_all, warn_all, write_all};
 use std::alloc::Global;
 
 /// What an accepted command writes and prints.
@@ -25,7 +25,7 @@ struct Work {
     text: String,
 }
 
-/// All that is done before anything is created: from here on no memory is taken.
+/// All that is done before anything is created. After it no memory is taken.
 fn prepare<H: Host>(alloc: Global, host: &mut H, input: &str) -> Result<Work, Status>
     ensures ok { IfOk result (λ work. WhereFile (H.files host.old) input.now (λ file. (index : IndexParts) × Accepts file index × (work.bytes.items ≡ bytes_of index) × (string_bytes work.text ≡ index_line index))) }
     ensures causes { IfErr result (λ status. IsCause status) }
@@ -59,6 +59,7 @@ fn deliver<H: Host>(host: &mut H, output: &str, bytes: &[u8], text: &[u8]) -> Re
     ensures read_faults { H.read_faults host.new ≡ H.read_faults host.old }
     ensures warn_faults { H.warn_faults host.new ≡ H.warn_faults host.old }
 {
+    created_then_appended();
     host.create(output)?;
     write_all(host, output, bytes)?;
     print_all(host, text)?;

@@ -7,6 +7,7 @@ use Rattle.std.proofs.lemmas.Cmp.{eq_by_cmp_equiv}
 use Rattle.std.proofs.lemmas.List.{append_assoc, append-nil, length-append, take_at, take-append-drop}
 use Rattle.std.specs.FinMap.{get, insert, get-insert, same_map, slice_cmp-IsAntisymmetric, nat_cmp-IsAntisymmetric}
 use Rattle.rgb_host.specs.Files.{Files, bytes_of, appended, IsMissing}
+use Rattle.rgb_host.specs.Laws.{CreatedThenAppended}
 
 -- the front that was taken makes the text with what is left
 pub record Appended (name text rest : List ℕ) (before after : Option Files) : Type 0 where
@@ -45,6 +46,14 @@ insert_twice m k v w = same_files _ _ (λ q.
 
 bytes_at : (m : Files) (k v : List ℕ) → bytes_of (insert m k v) k ≡ v
 bytes_at m k v = ap (λ o. unwrap_or o []) (get_at m k v)
+
+-- bytes behind an empty file are the file
+filled : (m : Files) (name bytes : List ℕ) → appended name bytes (insert m name []) ≡ insert m name bytes
+filled m name bytes = ap (λ old. insert (insert m name []) name (old ++ bytes)) (bytes_at m name []) ∙ insert_twice m name [] bytes
+
+pub created_then_appended : CreatedThenAppended
+created_then_appended None name bytes = refl
+created_then_appended (Some m) name bytes = ap Some (filled m name bytes)
 
 pub appended_twice : (name a b : List ℕ) (m : Files) → appended name b (appended name a m) ≡ appended name (a ++ b) m
 appended_twice name a b m =

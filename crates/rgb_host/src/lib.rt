@@ -2,12 +2,14 @@
 #![tactic(auto)]
 
 mod host;
+mod laws;
 mod memory;
 mod names;
 mod real;
 mod write;
 
 pub use host::{Failed, Host};
+pub use laws::created_then_appended;
 pub use memory::MemoryHost;
 pub use names::{FileMap, Numbers};
 pub use real::RealHost;

@@ -1,6 +1,4 @@
 //! Runs of the top call over a host in memory.
-ghost use Rattle.std.specs.Prelude.{◌≤◌};
-
 use rgb_app::run_plain;
 use rgb_host::{FileMap, MemoryHost, Numbers};
 use std::alloc::Global;
