@@ -1,25 +1,31 @@
 -- a text that is written piece by piece: what was taken so far is a front of it
-use Rattle.std.proofs.Common.{◌≡◌, ℕ, ◌≤◌, Bool, true, false, cond, List, [], ◌∷◌, ◌++◌, length, take, drop, Option, Some, None, option_map, unwrap_or, refl, sym, ap, subst, ◌∙◌, arith}
+use Rattle.std.proofs.Common.{◌≡◌, ℕ, ◌+◌, ◌≤◌, Bool, true, false, cond, List, [], ◌∷◌, ◌++◌, length, take, drop, Option, Some, None, option_map, unwrap_or, refl, sym, ap, subst, ◌∙◌, arith}
 use Rattle.std.specs.Ordering.{eq_by_cmp, nat_cmp}
 use Rattle.std.specs.Cmp.{Equal-is}
 use Rattle.std.specs.Cmp.Lexicographic.{slice_cmp, nat_list_cmp_total}
 use Rattle.std.proofs.lemmas.Cmp.{eq_by_cmp_equiv}
-use Rattle.std.proofs.lemmas.List.{append_assoc, append-nil, length-append, take_at, take-append-drop}
+use Rattle.std.proofs.lemmas.List.{append_assoc, append-nil, length-append, length-take-le, take_at, take-append-drop}
 use Rattle.std.specs.FinMap.{get, insert, get-insert, same_map, slice_cmp-IsAntisymmetric, nat_cmp-IsAntisymmetric}
 use Rattle.rgb_host.specs.Files.{Files, bytes_of, appended, IsMissing}
-use Rattle.rgb_host.specs.Laws.{CreatedThenAppended}
+use Rattle.rgb_host.specs.Seen.{Seen, Lacks, grown, with_print, with_warning, WriteFailed, WarnFailed, AppendedThenFailed, PrintedThenFailed, WarnedThenFailed}
+use Rattle.rgb_host.specs.Laws.{CreatedThenAppended, AppendedTwice, NothingAppended, AppendedIsThere, FailedLater}
 
 -- the front that was taken makes the text with what is left
-pub record Appended (name text rest : List ℕ) (before after : Option Files) : Type 0 where
+pub record Appended (name text rest : List ℕ) (before after : Seen) : Type 0 where
   pub front : List ℕ
   pub whole : text ≡ front ++ rest
-  pub told : after ≡ option_map (appended name front) before
-  pub there : ¬ IsMissing after name
+  pub told : after ≡ grown name front before
+  pub there : ¬ Lacks after name
 
-pub record Added (text rest : List ℕ) (before after : Option (List ℕ)) : Type 0 where
+pub record Printed (text rest : List ℕ) (before after : Seen) : Type 0 where
   pub front : List ℕ
   pub whole : text ≡ front ++ rest
-  pub told : after ≡ option_map (λ told. told ++ front) before
+  pub told : after ≡ with_print front before
+
+pub record Warned (text rest : List ℕ) (before after : Seen) : Type 0 where
+  pub front : List ℕ
+  pub whole : text ≡ front ++ rest
+  pub told : after ≡ with_warning front before
 
 pub same_files : (m n : Files) → ((q : List ℕ) → get m q ≡ get n q) → m ≡ n
 same_files = same_map nat_list_cmp_total (slice_cmp-IsAntisymmetric nat_cmp-IsAntisymmetric)
@@ -50,10 +56,6 @@ bytes_at m k v = ap (λ o. unwrap_or o []) (get_at m k v)
 -- bytes behind an empty file are the file
 filled : (m : Files) (name bytes : List ℕ) → appended name bytes (insert m name []) ≡ insert m name bytes
 filled m name bytes = ap (λ old. insert (insert m name []) name (old ++ bytes)) (bytes_at m name []) ∙ insert_twice m name [] bytes
-
-pub created_then_appended : CreatedThenAppended
-created_then_appended None name bytes = refl
-created_then_appended (Some m) name bytes = ap Some (filled m name bytes)
 
 pub appended_twice : (name a b : List ℕ) (m : Files) → appended name b (appended name a m) ≡ appended name (a ++ b) m
 appended_twice name a b m =
@@ -108,44 +110,115 @@ added_more : (a b : List ℕ) (told : Option (List ℕ)) → option_map (λ told
 added_more a b None = refl
 added_more a b (Some text) = ap Some (append_assoc text a b)
 
-pub appended-start : (name text : List ℕ) (told : Option Files) → ¬ IsMissing told name → Appended name text text told told
-appended-start name text told there = record { front = []; whole = refl; told = appended_none name told there; there = there }
+abbrev with_files : Seen → Option Files → Seen
+with_files host files = record host { files = files }
 
-pub appended-step : (name text rest left : List ℕ) (before mid after : Option Files) (n : ℕ) → Appended name text rest before mid → after ≡ option_map (appended name (take n rest)) mid → left ≡ drop n rest → Appended name text left before after
+abbrev with_printed : Seen → Option (List ℕ) → Seen
+with_printed host printed = record host { printed = printed }
+
+abbrev with_warned : Seen → Option (List ℕ) → Seen
+with_warned host warned = record host { warned = warned }
+
+pub appended-start : (name text : List ℕ) (host : Seen) → ¬ Lacks host name → Appended name text text host host
+appended-start name text host there = record { front = []; whole = refl; told = ap (with_files host) (appended_none name host.files there); there = there }
+
+pub appended-step : (name text rest left : List ℕ) (before mid after : Seen) (n : ℕ) → Appended name text rest before mid → after ≡ grown name (take n rest) mid → left ≡ drop n rest → Appended name text left before after
 appended-step name text rest left before mid after n so_far step is_left = record {
   front = so_far.front ++ take n rest;
   whole = split text so_far.front rest n so_far.whole ∙ ap (λ r. (so_far.front ++ take n rest) ++ r) (sym is_left);
-  told = step ∙ ap (option_map (appended name (take n rest))) so_far.told ∙ appended_more name so_far.front (take n rest) before;
-  there = subst (λ files. ¬ IsMissing files name) (sym step) (appended_there name (take n rest) mid);
+  told = step ∙ ap (grown name (take n rest)) so_far.told ∙ ap (with_files before) (appended_more name so_far.front (take n rest) before.files);
+  there = subst (λ host. ¬ Lacks host name) (sym step) (appended_there name (take n rest) mid.files);
 }
 
-pub appended-cut : (name text rest : List ℕ) (before mid after : Option Files) → Appended name text rest before mid → after ≡ mid → (n : ℕ) × (n ≤ length text) × (after ≡ option_map (appended name (take n text)) before)
-appended-cut name text rest before mid after so_far same =
+pub appended-cut : (name text rest : List ℕ) (before mid after : Seen) → Appended name text rest before mid → WriteFailed mid after → AppendedThenFailed name text before after
+appended-cut name text rest before mid after so_far failed =
     let is = front_is text so_far.front rest so_far.whole in
-    (length so_far.front, is.0, same ∙ so_far.told ∙ ap (λ bs. option_map (appended name bs) before) is.1)
+    let told = so_far.told ∙ ap (λ bs. grown name bs before) is.1 in
+    record { n = length so_far.front; within = is.0; failed = subst (λ host. WriteFailed host after) told failed }
 
-pub appended-end : (name text rest : List ℕ) (before after : Option Files) → Appended name text rest before after → length rest ≡ 0 → after ≡ option_map (appended name text) before
+pub appended-end : (name text rest : List ℕ) (before after : Seen) → Appended name text rest before after → length rest ≡ 0 → after ≡ grown name text before
 appended-end name text rest before after so_far none =
-    so_far.told ∙ ap (λ bs. option_map (appended name bs) before) (sym (so_far.whole ∙ ap (λ r. so_far.front ++ r) (no_elements rest none) ∙ append-nil so_far.front))
+    so_far.told ∙ ap (λ bs. grown name bs before) (sym (so_far.whole ∙ ap (λ r. so_far.front ++ r) (no_elements rest none) ∙ append-nil so_far.front))
 
-pub added-start : (text : List ℕ) (told : Option (List ℕ)) → Added text text told told
-added-start text told = record { front = []; whole = refl; told = added_none told }
+pub printed-start : (text : List ℕ) (host : Seen) → Printed text text host host
+printed-start text host = record { front = []; whole = refl; told = ap (with_printed host) (added_none host.printed) }
 
-pub added-step : (text rest left : List ℕ) (before mid after : Option (List ℕ)) (n : ℕ) → Added text rest before mid → after ≡ option_map (λ told. told ++ take n rest) mid → left ≡ drop n rest → Added text left before after
-added-step text rest left before mid after n so_far step is_left = record {
+pub printed-step : (text rest left : List ℕ) (before mid after : Seen) (n : ℕ) → Printed text rest before mid → after ≡ with_print (take n rest) mid → left ≡ drop n rest → Printed text left before after
+printed-step text rest left before mid after n so_far step is_left = record {
   front = so_far.front ++ take n rest;
   whole = split text so_far.front rest n so_far.whole ∙ ap (λ r. (so_far.front ++ take n rest) ++ r) (sym is_left);
-  told = step ∙ ap (option_map (λ told. told ++ take n rest)) so_far.told ∙ added_more so_far.front (take n rest) before;
+  told = step ∙ ap (with_print (take n rest)) so_far.told ∙ ap (with_printed before) (added_more so_far.front (take n rest) before.printed);
 }
 
-pub added-cut : (text rest : List ℕ) (before mid after : Option (List ℕ)) → Added text rest before mid → after ≡ mid → (n : ℕ) × (n ≤ length text) × (after ≡ option_map (λ told. told ++ take n text) before)
-added-cut text rest before mid after so_far same =
+pub printed-cut : (text rest : List ℕ) (before mid after : Seen) → Printed text rest before mid → WriteFailed mid after → PrintedThenFailed text before after
+printed-cut text rest before mid after so_far failed =
     let is = front_is text so_far.front rest so_far.whole in
-    (length so_far.front, is.0, same ∙ so_far.told ∙ ap (λ bs. option_map (λ told. told ++ bs) before) is.1)
+    let told = so_far.told ∙ ap (λ bs. with_print bs before) is.1 in
+    record { n = length so_far.front; within = is.0; failed = subst (λ host. WriteFailed host after) told failed }
 
-pub added-end : (text rest : List ℕ) (before after : Option (List ℕ)) → Added text rest before after → length rest ≡ 0 → after ≡ option_map (λ told. told ++ text) before
-added-end text rest before after so_far none =
-    so_far.told ∙ ap (λ bs. option_map (λ told. told ++ bs) before) (sym (so_far.whole ∙ ap (λ r. so_far.front ++ r) (no_elements rest none) ∙ append-nil so_far.front))
+pub printed-end : (text rest : List ℕ) (before after : Seen) → Printed text rest before after → length rest ≡ 0 → after ≡ with_print text before
+printed-end text rest before after so_far none =
+    so_far.told ∙ ap (λ bs. with_print bs before) (sym (so_far.whole ∙ ap (λ r. so_far.front ++ r) (no_elements rest none) ∙ append-nil so_far.front))
+
+pub warned-start : (text : List ℕ) (host : Seen) → Warned text text host host
+warned-start text host = record { front = []; whole = refl; told = ap (with_warned host) (added_none host.warned) }
+
+pub warned-step : (text rest left : List ℕ) (before mid after : Seen) (n : ℕ) → Warned text rest before mid → after ≡ with_warning (take n rest) mid → left ≡ drop n rest → Warned text left before after
+warned-step text rest left before mid after n so_far step is_left = record {
+  front = so_far.front ++ take n rest;
+  whole = split text so_far.front rest n so_far.whole ∙ ap (λ r. (so_far.front ++ take n rest) ++ r) (sym is_left);
+  told = step ∙ ap (with_warning (take n rest)) so_far.told ∙ ap (with_warned before) (added_more so_far.front (take n rest) before.warned);
+}
+
+pub warned-cut : (text rest : List ℕ) (before mid after : Seen) → Warned text rest before mid → WarnFailed mid after → WarnedThenFailed text before after
+warned-cut text rest before mid after so_far failed =
+    let is = front_is text so_far.front rest so_far.whole in
+    let told = so_far.told ∙ ap (λ bs. with_warning bs before) is.1 in
+    record { n = length so_far.front; within = is.0; failed = subst (λ host. WarnFailed host after) told failed }
+
+pub warned-end : (text rest : List ℕ) (before after : Seen) → Warned text rest before after → length rest ≡ 0 → after ≡ with_warning text before
+warned-end text rest before after so_far none =
+    so_far.told ∙ ap (λ bs. with_warning bs before) (sym (so_far.whole ∙ ap (λ r. so_far.front ++ r) (no_elements rest none) ∙ append-nil so_far.front))
 
 pub insert_same : (m : Files) (k v : List ℕ) → get m k ≡ Some v → insert m k v ≡ m
 insert_same m k v e = same_files _ _ (λ q. get_inserted m k v q ∙ kept m q k v e (eq_by_cmp (slice_cmp nat_cmp) q k) refl)
+
+-- ---- laws
+
+created_filled : (name bytes : List ℕ) (told : Option Files) → option_map (appended name bytes) (option_map (λ files. insert files name []) told) ≡ option_map (λ files. insert files name bytes) told
+created_filled name bytes None = refl
+created_filled name bytes (Some m) = ap Some (filled m name bytes)
+
+pub created_then_appended : CreatedThenAppended
+created_then_appended host name bytes = ap (with_files host) (created_filled name bytes host.files)
+
+pub appended_again : AppendedTwice
+appended_again host name first second = ap (with_files host) (appended_more name first second host.files)
+
+pub nothing_appended : NothingAppended
+nothing_appended host name there = ap (with_files host) (sym (appended_none name host.files there))
+
+pub appended_is_there : AppendedIsThere
+appended_is_there host name bytes = appended_there name bytes host.files
+
+-- the first bytes of a later piece are, with what stands before them, the first bytes of the whole
+taken_later : (first second rest : List ℕ) (n : ℕ) → n ≤ length second → take (length first + n) (first ++ (second ++ rest)) ≡ first ++ take n second
+taken_later first second rest n within =
+    let front = take n second in
+    let cut : second ≡ front ++ drop n second = sym (take-append-drop n second) in
+    let whole : first ++ (second ++ rest) ≡ (first ++ front) ++ (drop n second ++ rest) =
+    ap (λ s. first ++ (s ++ rest)) cut ∙ ap (λ s. first ++ s) (append_assoc front (drop n second) rest) ∙ sym (append_assoc first front (drop n second ++ rest)) in
+    let len : length (first ++ front) ≡ length first + n = length-append first front ∙ ap (λ k. length first + k) (length-take-le n second within) in
+    ap (take (length first + n)) whole ∙ take_at (first ++ front) (drop n second ++ rest) (length first + n) len
+
+pub failed_later : FailedLater
+failed_later before after name first second rest failed =
+    let joined = appended_again before name first (take failed.n second) in
+    let same = sym (ap (λ bs. grown name bs before) (taken_later first second rest failed.n failed.within)) in
+    let one = length-append first (second ++ rest) in
+    let two = length-append second rest in
+    record {
+      n = length first + failed.n;
+      within = omega (arith, failed.within, one, two);
+      failed = subst (λ host. WriteFailed host after) (joined ∙ same) failed.failed;
+    }

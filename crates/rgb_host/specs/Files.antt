@@ -29,7 +29,8 @@ one_more count = min (count + 1) (2 ^ 64 - 1)
 abbrev pub Rose : ℕ → ℕ → Type 0
 Rose before after = one_more before ≤ after
 
--- a read into a buffer gave the first n bytes of the file from a place on, and one at least where bytes and room are left
+-- a read into a buffer gave the first n bytes of the file from a place on, and one at least where
+-- bytes and room are left
 pub record Reads (file : List ℕ) (at : ℕ) (buffer : List ℕ) (n : ℕ) : Type 0 where
   pub front : take n buffer ≡ take n (drop at file)
   pub left : n ≤ length (drop at file)
@@ -37,7 +38,8 @@ pub record Reads (file : List ℕ) (at : ℕ) (buffer : List ℕ) (n : ℕ) : Ty
 
 -- where the host tells its files and has this one, the read gave its bytes
 abbrev pub ReadsTold : Option Files → List ℕ → ℕ → List ℕ → ℕ → Type 0
-ReadsTold told name at buffer n = IfSome told (λ files. IfSome (get files name) (λ file. Reads file at buffer n))
+ReadsTold told name at buffer n =
+    IfSome told (λ files. IfSome (get files name) (λ file. Reads file at buffer n))
 
 -- a piece was taken up to n: all of it fits, and one byte at least where there is one
 pub record Takes (piece : List ℕ) (n : ℕ) : Type 0 where

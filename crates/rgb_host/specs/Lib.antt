@@ -1,4 +1,5 @@
 pub mod Files
+pub mod Seen
 pub mod Memory
 pub mod Real
 pub mod Laws

@@ -10,7 +10,8 @@ use Rattle.rgb_host.specs.Files.{Files, bytes_of, appended, one_more}
 abbrev pub told : BTreeMap (String Global) (Vec ℕ) → Files
 told names = from_entries (map (λ entry. (string_bytes entry.0, entry.1.items)) names.entries)
 
--- all that a host in memory holds: what it tells, which calls fail, how many were made, and the counts of faults
+-- all that a host in memory holds: what it tells, which calls fail, how many were made, and the
+-- counts of faults
 pub record MemoryState : Type 0 where
   pub files : Files
   pub printed : List ℕ
@@ -30,17 +31,29 @@ Lists = (List ℕ × List ℕ) × (List ℕ × List ℕ)
 abbrev Counts : Type 0
 Counts = (ℕ × (ℕ × ℕ)) × (ℕ × (ℕ × ℕ))
 
+abbrev coded_text : Coded (List ℕ)
+coded_text = coded_list coded_ℕ
+
 abbrev coded_lists : Coded Lists
-coded_lists = coded× (coded× (coded_list coded_ℕ) (coded_list coded_ℕ)) (coded× (coded_list coded_ℕ) (coded_list coded_ℕ))
+coded_lists =
+    coded× (coded× coded_text coded_text) (coded× coded_text coded_text)
 
 abbrev coded_counts : Coded Counts
-coded_counts = coded× (coded× coded_ℕ (coded× coded_ℕ coded_ℕ)) (coded× coded_ℕ (coded× coded_ℕ coded_ℕ))
+coded_counts =
+    coded× (coded× coded_ℕ (coded× coded_ℕ coded_ℕ)) (coded× coded_ℕ (coded× coded_ℕ coded_ℕ))
 
 -- the state is stored as the files, the four lists and the six numbers
 abbrev pub state_code : Coded MemoryState
 state_code =
-    code_by (Files × (Lists × Counts)) (coded× (code (coded_list coded_ℕ) (coded_list coded_ℕ)) (coded× coded_lists coded_counts))
-    (λ h. (h.files, (((h.printed, h.warned), (h.failing_reads, h.failing_writes)), ((h.most, (h.reads, h.writes)), (h.read_faults, (h.write_faults, h.warn_faults))))))
+    code_by (Files × (Lists × Counts))
+    (coded× (code coded_text coded_text) (coded× coded_lists coded_counts))
+    (λ h. (
+      h.files,
+      (
+        ((h.printed, h.warned), (h.failing_reads, h.failing_writes)),
+        ((h.most, (h.reads, h.writes)), (h.read_faults, (h.write_faults, h.warn_faults))),
+      ),
+    ))
     (λ s. record {
       files = s.0;
       printed = s.1.0.0.0;
@@ -78,7 +91,8 @@ read_made host = record host { reads = one_more host.reads }
 
 -- after a read call that was listed
 abbrev pub read_failed : MemoryState → MemoryState
-read_failed host = record host { reads = one_more host.reads; read_faults = one_more host.read_faults }
+read_failed host =
+    record host { reads = one_more host.reads; read_faults = one_more host.read_faults }
 
 -- after a call that made the named file empty
 abbrev pub created : List ℕ → MemoryState → MemoryState
@@ -86,20 +100,25 @@ created name host = record host { writes = one_more host.writes; files = insert 
 
 -- after a call that took bytes for the named file
 abbrev pub file_grown : List ℕ → List ℕ → MemoryState → MemoryState
-file_grown name bytes host = record host { writes = one_more host.writes; files = appended name bytes host.files }
+file_grown name bytes host =
+    record host { writes = one_more host.writes; files = appended name bytes host.files }
 
 -- after a call that printed bytes
 abbrev pub print_grown : List ℕ → MemoryState → MemoryState
-print_grown bytes host = record host { writes = one_more host.writes; printed = host.printed ++ bytes }
+print_grown bytes host =
+    record host { writes = one_more host.writes; printed = host.printed ++ bytes }
 
 -- after a call that warned bytes
 abbrev pub warning_grown : List ℕ → MemoryState → MemoryState
-warning_grown bytes host = record host { writes = one_more host.writes; warned = host.warned ++ bytes }
+warning_grown bytes host =
+    record host { writes = one_more host.writes; warned = host.warned ++ bytes }
 
 -- after a call of create, append or print that failed
 abbrev pub write_failed : MemoryState → MemoryState
-write_failed host = record host { writes = one_more host.writes; write_faults = one_more host.write_faults }
+write_failed host =
+    record host { writes = one_more host.writes; write_faults = one_more host.write_faults }
 
 -- after a call of warn that failed
 abbrev pub warn_failed : MemoryState → MemoryState
-warn_failed host = record host { writes = one_more host.writes; warn_faults = one_more host.warn_faults }
+warn_failed host =
+    record host { writes = one_more host.writes; warn_faults = one_more host.warn_faults }

@@ -1,7 +1,7 @@
-//! The outside as a trait: named files, printed and warned text, and counts of faults.
-ghost use Rattle.std.specs.Prelude.{◌≡◌, ℕ, ◌<◌, ◌≤◌, ◌++◌, ◌⊎◌, List, [], length, take, Option, option_map, IfOk, OnOk, OnErr, IsErr};
-ghost use Rattle.std.specs.FinMap.{insert};
-ghost use Rattle.rgb_host.specs.Files.{Files, one_more, IsMissing, Rose, ReadsTold, Takes, appended};
+//! The outside as a trait: named files, printed and warned text, and counts of failed calls.
+ghost use Rattle.std.specs.Prelude.{◌≡◌, ◌⊎◌, ℕ, ◌≤◌, length, take, IfOk, OnOk, OnErr, IsErr};
+ghost use Rattle.rgb_host.specs.Files.{one_more, ReadsTold, Takes};
+ghost use Rattle.rgb_host.specs.Seen.{Seen, Lacks, created, grown, with_print, with_warning, ReadFailed, WriteFailed, WarnFailed};
 ghost use Rattle.rgb_host.specs.declared.host.Failed.{Failed};
 
 use thiserror::Error;
@@ -13,89 +13,49 @@ pub struct Failed;
 
 /// Files by name, standard output and standard error. A name is the file's path as it stands.
 pub trait Host {
-    /// The files, where the host tells them.
-    ghost files: { Self → Option Files };
-
-    /// What was printed, where it is told.
-    ghost printed: { Self → Option (List ℕ) };
-
-    /// What was warned, where it is told.
-    ghost warned: { Self → Option (List ℕ) };
-
-    /// How often a read failed.
-    ghost read_faults: { Self → ℕ };
-
-    /// How often a creation, a write or a print failed.
-    ghost write_faults: { Self → ℕ };
-
-    /// How often a warning failed.
-    ghost warn_faults: { Self → ℕ };
+    /// What it tells, and how many of its calls failed.
+    ghost seen: { Self → Seen };
 
     /// Reads bytes of a file from a place on into the front of the buffer, and answers how many.
     /// 0 says that no byte is left there, or that the buffer is empty. What stands in the buffer
     /// behind them, or after a failure, is free.
     fn read_at(&mut self, name: &str, at: u64, buf: &mut [u8]) -> Result<usize, Failed>
         ensures within { IfOk result (λ n. n ≤ length buf.new) }
-        ensures ok { IfOk result (λ n. ReadsTold (files self.old) name.now at buf.new n) }
-        ensures missing { IsMissing (files self.old) name.now → IsErr result }
-        ensures missing_counts { IsMissing (files self.old) name.now → read_faults self.new ≡ read_faults self.old }
-        ensures fault { OnErr result (IsMissing (files self.old) name.now ⊎ Rose (read_faults self.old) (read_faults self.new)) }
-        ensures counts { read_faults self.old ≤ read_faults self.new }
-        ensures files { files self.new ≡ files self.old }
-        ensures printed { printed self.new ≡ printed self.old }
-        ensures warned { warned self.new ≡ warned self.old }
-        ensures write_faults { write_faults self.new ≡ write_faults self.old }
-        ensures warn_faults { warn_faults self.new ≡ warn_faults self.old };
+        ensures bytes { IfOk result (λ n. ReadsTold (seen self.old).files name.now at buf.new n) }
+        ensures ok { OnOk result (seen self.new ≡ seen self.old) }
+        ensures missing { Lacks (seen self.old) name.now
+            → IsErr result × (seen self.new ≡ seen self.old) }
+        ensures fault { OnErr result
+            (Lacks (seen self.old) name.now ⊎ ReadFailed (seen self.old) (seen self.new)) };
 
     /// Makes the named file empty, whether or not it was there.
     fn create(&mut self, name: &str) -> Result<(), Failed>
-        ensures ok { OnOk result (files self.new ≡ option_map (λ told. insert told name.now []) (files self.old)) }
-        ensures there { OnOk result (¬ IsMissing (files self.new) name.now) }
-        ensures err { OnErr result (files self.new ≡ files self.old) }
-        ensures fault { OnErr result (Rose (write_faults self.old) (write_faults self.new)) }
-        ensures counts { write_faults self.old ≤ write_faults self.new }
-        ensures printed { printed self.new ≡ printed self.old }
-        ensures warned { warned self.new ≡ warned self.old }
-        ensures read_faults { read_faults self.new ≡ read_faults self.old }
-        ensures warn_faults { warn_faults self.new ≡ warn_faults self.old };
+        ensures ok { OnOk result (seen self.new ≡ created name.now (seen self.old)) }
+        ensures there { OnOk result (¬ Lacks (seen self.new) name.now) }
+        ensures fault { OnErr result (WriteFailed (seen self.old) (seen self.new)) };
 
-    /// Adds a front of the piece at the end of the named file, and answers its length.
+    /// Adds the first bytes of the piece at the end of the named file, and answers how many.
     fn append(&mut self, name: &str, piece: &[u8]) -> Result<usize, Failed>
-        requires { ¬ IsMissing (files self.old) name.now }
+        requires { ¬ Lacks (seen self.old) name.now }
         ensures takes { IfOk result (λ n. Takes piece.now n) }
-        ensures ok { IfOk result (λ n. files self.new ≡ option_map (appended name.now (take n piece.now)) (files self.old)) }
-        ensures there { ¬ IsMissing (files self.new) name.now }
-        ensures err { OnErr result (files self.new ≡ files self.old) }
-        ensures fault { OnErr result (Rose (write_faults self.old) (write_faults self.new)) }
-        ensures counts { write_faults self.old ≤ write_faults self.new }
-        ensures printed { printed self.new ≡ printed self.old }
-        ensures warned { warned self.new ≡ warned self.old }
-        ensures read_faults { read_faults self.new ≡ read_faults self.old }
-        ensures warn_faults { warn_faults self.new ≡ warn_faults self.old };
+        ensures ok { IfOk result
+            (λ n. seen self.new ≡ grown name.now (take n piece.now) (seen self.old)) }
+        ensures there { ¬ Lacks (seen self.new) name.now }
+        ensures fault { OnErr result (WriteFailed (seen self.old) (seen self.new)) };
 
-    /// Prints a front of the piece, and answers its length.
+    /// Prints the first bytes of the piece, and answers how many.
     fn print(&mut self, piece: &[u8]) -> Result<usize, Failed>
         ensures takes { IfOk result (λ n. Takes piece.now n) }
-        ensures ok { IfOk result (λ n. printed self.new ≡ option_map (λ told. told ++ take n piece.now) (printed self.old)) }
-        ensures err { OnErr result (printed self.new ≡ printed self.old) }
-        ensures fault { OnErr result (Rose (write_faults self.old) (write_faults self.new)) }
-        ensures counts { write_faults self.old ≤ write_faults self.new }
-        ensures files { files self.new ≡ files self.old }
-        ensures warned { warned self.new ≡ warned self.old }
-        ensures read_faults { read_faults self.new ≡ read_faults self.old }
-        ensures warn_faults { warn_faults self.new ≡ warn_faults self.old };
+        ensures ok { IfOk result
+            (λ n. seen self.new ≡ with_print (take n piece.now) (seen self.old)) }
+        ensures fault { OnErr result (WriteFailed (seen self.old) (seen self.new)) };
 
-    /// Warns a front of the piece, and answers its length.
+    /// Warns the first bytes of the piece, and answers how many.
     fn warn(&mut self, piece: &[u8]) -> Result<usize, Failed>
         ensures takes { IfOk result (λ n. Takes piece.now n) }
-        ensures ok { IfOk result (λ n. warned self.new ≡ option_map (λ told. told ++ take n piece.now) (warned self.old)) }
-        ensures err { OnErr result (warned self.new ≡ warned self.old) }
-        ensures fault { OnErr result (Rose (warn_faults self.old) (warn_faults self.new)) }
-        ensures counts { warn_faults self.old ≤ warn_faults self.new }
-        ensures files { files self.new ≡ files self.old }
-        ensures printed { printed self.new ≡ printed self.old }
-        ensures read_faults { read_faults self.new ≡ read_faults self.old }
-        ensures write_faults { write_faults self.new ≡ write_faults self.old };
+        ensures ok { IfOk result
+            (λ n. seen self.new ≡ with_warning (take n piece.now) (seen self.old)) }
+        ensures fault { OnErr result (WarnFailed (seen self.old) (seen self.new)) };
 }
 
 /// Counts one more.

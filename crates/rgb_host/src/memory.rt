@@ -4,8 +4,9 @@ ghost use Rattle.std.specs.FinMap.{get};
 ghost use Rattle.rgb_host.specs.Files.{one_more, Reads, ReadsTold, Takes};
 ghost use Rattle.rgb_host.specs.Memory.{IsReadListed, IsWriteListed, given, taken, read_made, read_failed, created, file_grown, print_grown, warning_grown, write_failed, warn_failed};
 
+use crate::file_map::FileMap;
 use crate::host::{Failed, Host, raise};
-use crate::names::{FileMap, Numbers};
+use crate::numbers::Numbers;
 use std::alloc::Global;
 use std::marker::Model;
 
@@ -121,26 +122,24 @@ impl MemoryHost {
 }
 
 impl Host for MemoryHost {
-    ghost files = { λ h. Some h.files };
-
-    ghost printed = { λ h. Some h.printed };
-
-    ghost warned = { λ h. Some h.warned };
-
-    ghost read_faults = { λ h. h.read_faults };
-
-    ghost write_faults = { λ h. h.write_faults };
-
-    ghost warn_faults = { λ h. h.warn_faults };
+    ghost seen = { λ h. record {
+      files = Some h.files;
+      printed = Some h.printed;
+      warned = Some h.warned;
+      read_faults = h.read_faults;
+      write_faults = h.write_faults;
+      warn_faults = h.warn_faults;
+    } };
 
     fn read_at(&mut self, name: &str, at: u64, buf: &mut [u8]) -> Result<usize, Failed>
-        ensures fails { IsErr result ↔ ((get self.old.files name.now ≡ None) ⊎ IsReadListed self.old) }
+        ensures fails { IsErr result
+            ↔ ((get self.old.files name.now ≡ None) ⊎ IsReadListed self.old) }
         ensures given { IfOk result (λ n. n ≡ given self.old name.now at (length buf.new)) }
         ensures bytes { IfOk result (λ n. ReadsTold (Some self.old.files) name.now at buf.new n) }
         ensures ok { OnOk result (self.new ≡ read_made self.old) }
         ensures missing { get self.old.files name.now ≡ None → self.new ≡ read_made self.old }
-        ensures fault { OnErr result ((get self.old.files name.now ≡ None) ⊎ (self.new ≡ read_failed self.old)) }
-        ensures counts { self.old.read_faults ≤ self.new.read_faults }
+        ensures fault { OnErr result
+            ((get self.old.files name.now ≡ None) ⊎ (self.new ≡ read_failed self.old)) }
     {
         let listed = is_next(&mut self.reads, &self.failing_reads);
         let Some(file) = self.files.bytes(name) else {
@@ -158,7 +157,6 @@ impl Host for MemoryHost {
         ensures ok { OnOk result (self.new ≡ created name.now self.old) }
         ensures there { OnOk result (¬ (get self.new.files name.now ≡ None)) }
         ensures err { OnErr result (self.new ≡ write_failed self.old) }
-        ensures counts { self.old.write_faults ≤ self.new.write_faults }
     {
         let listed = is_next(&mut self.writes, &self.failing_writes);
         if listed || self.files.clear(self.alloc, name).is_err() {
@@ -176,7 +174,6 @@ impl Host for MemoryHost {
         ensures ok { IfOk result (λ n. self.new ≡ file_grown name.now (take n piece.now) self.old) }
         ensures there { ¬ (get self.new.files name.now ≡ None) }
         ensures err { OnErr result (self.new ≡ write_failed self.old) }
-        ensures counts { self.old.write_faults ≤ self.new.write_faults }
     {
         let listed = is_next(&mut self.writes, &self.failing_writes);
         let taken = piece.len().min(self.most as usize);
@@ -193,7 +190,6 @@ impl Host for MemoryHost {
         ensures takes { IfOk result (λ n. Takes piece.now n) }
         ensures ok { IfOk result (λ n. self.new ≡ print_grown (take n piece.now) self.old) }
         ensures err { OnErr result (self.new ≡ write_failed self.old) }
-        ensures counts { self.old.write_faults ≤ self.new.write_faults }
     {
         let listed = is_next(&mut self.writes, &self.failing_writes);
         let taken = piece.len().min(self.most as usize);
@@ -210,7 +206,6 @@ impl Host for MemoryHost {
         ensures takes { IfOk result (λ n. Takes piece.now n) }
         ensures ok { IfOk result (λ n. self.new ≡ warning_grown (take n piece.now) self.old) }
         ensures err { OnErr result (self.new ≡ warn_failed self.old) }
-        ensures counts { self.old.warn_faults ≤ self.new.warn_faults }
     {
         let listed = is_next(&mut self.writes, &self.failing_writes);
         let taken = piece.len().min(self.most as usize);

@@ -1,6 +1,6 @@
 //! A host over the system's files, standard output and standard error.
-ghost use Rattle.std.specs.Prelude.{◌≡◌, ◌≤◌, length, IfOk, OnOk, OnErr, None};
-ghost use Rattle.rgb_host.specs.Files.{Takes};
+ghost use Rattle.std.specs.Prelude.{◌≡◌, ◌≤◌, length, IfOk, IsSomeAnd, OnOk, OnErr, None, Ok, string_bytes};
+ghost use Rattle.rgb_host.specs.Files.{one_more, Takes};
 ghost use Rattle.rgb_host.specs.Real.{one_more_read, one_more_write, one_more_warning};
 
 use crate::host::{Failed, Host, raise};
@@ -16,8 +16,8 @@ use std::os::unix::fs::FileExt;
 #[derive(Drop)]
 pub struct RealHost {
     rt: HostRuntime,
-    reading: Option<Kept>,
-    writing: Option<Kept>,
+    reading: Option<OpenFile>,
+    writing: Option<OpenFile>,
     read_faults: u64,
     write_faults: u64,
     warn_faults: u64,
@@ -25,7 +25,7 @@ pub struct RealHost {
 
 /// An open file, with the name by which it was opened.
 #[derive(Drop)]
-struct Kept {
+struct OpenFile {
     name: String,
     file: File,
 }
@@ -59,100 +59,81 @@ impl RealHost {
 }
 
 impl Host for RealHost {
-    ghost files = { λ h. None };
-
-    ghost printed = { λ h. None };
-
-    ghost warned = { λ h. None };
-
-    ghost read_faults = { λ h. h.read_faults };
-
-    ghost write_faults = { λ h. h.write_faults };
-
-    ghost warn_faults = { λ h. h.warn_faults };
+    ghost seen = { λ h. record {
+      files = None;
+      printed = None;
+      warned = None;
+      read_faults = h.read_faults;
+      write_faults = h.write_faults;
+      warn_faults = h.warn_faults;
+    } };
 
     fn read_at(&mut self, name: &str, at: u64, buf: &mut [u8]) -> Result<usize, Failed>
         ensures within { IfOk result (λ n. n ≤ length buf.new) }
         ensures ok { OnOk result (self.new ≡ self.old) }
         ensures err { OnErr result (self.new ≡ one_more_read self.old) }
-        ensures counts { self.old.read_faults ≤ self.new.read_faults }
     {
-        match read_kept(self.rt, &mut self.reading, name, at, buf) {
-            Ok(given) => Ok(given),
-            Err(_) => {
-                raise(&mut self.read_faults);
-                Err(Failed)
-            }
-        }
+        let given = read_open(self.rt, &mut self.reading, name, at, buf);
+        or_count(given, &mut self.read_faults)
     }
 
     fn create(&mut self, name: &str) -> Result<(), Failed>
         ensures ok { OnOk result (self.new ≡ self.old) }
         ensures err { OnErr result (self.new ≡ one_more_write self.old) }
-        ensures counts { self.old.write_faults ≤ self.new.write_faults }
     {
-        match Kept::create(self.rt, name) {
-            Ok(file) => {
-                self.writing = Some(file);
-                Ok(())
-            }
-            Err(_) => {
-                raise(&mut self.write_faults);
-                Err(Failed)
-            }
-        }
+        let created = create_open(self.rt, &mut self.writing, name);
+        or_count(created, &mut self.write_faults)
     }
 
     fn append(&mut self, name: &str, piece: &[u8]) -> Result<usize, Failed>
         ensures takes { IfOk result (λ n. Takes piece.now n) }
         ensures ok { OnOk result (self.new ≡ self.old) }
         ensures err { OnErr result (self.new ≡ one_more_write self.old) }
-        ensures counts { self.old.write_faults ≤ self.new.write_faults }
     {
-        match append_kept(self.rt, &mut self.writing, name, piece) {
-            Ok(taken) => Ok(taken),
-            Err(_) => {
-                raise(&mut self.write_faults);
-                Err(Failed)
-            }
-        }
+        let taken = append_open(self.rt, &mut self.writing, name, piece);
+        or_count(taken, &mut self.write_faults)
     }
 
     fn print(&mut self, piece: &[u8]) -> Result<usize, Failed>
         ensures takes { IfOk result (λ n. Takes piece.now n) }
         ensures ok { OnOk result (self.new ≡ self.old) }
         ensures err { OnErr result (self.new ≡ one_more_write self.old) }
-        ensures counts { self.old.write_faults ≤ self.new.write_faults }
     {
-        match write_some(&mut self.rt.stdout(), piece) {
-            Ok(taken) => Ok(taken),
-            Err(_) => {
-                raise(&mut self.write_faults);
-                Err(Failed)
-            }
-        }
+        let taken = write_some(&mut self.rt.stdout(), piece);
+        or_count(taken, &mut self.write_faults)
     }
 
     fn warn(&mut self, piece: &[u8]) -> Result<usize, Failed>
         ensures takes { IfOk result (λ n. Takes piece.now n) }
         ensures ok { OnOk result (self.new ≡ self.old) }
         ensures err { OnErr result (self.new ≡ one_more_warning self.old) }
-        ensures counts { self.old.warn_faults ≤ self.new.warn_faults }
     {
-        match write_some(&mut self.rt.stderr(), piece) {
-            Ok(taken) => Ok(taken),
-            Err(_) => {
-                raise(&mut self.warn_faults);
-                Err(Failed)
-            }
+        let taken = write_some(&mut self.rt.stderr(), piece);
+        or_count(taken, &mut self.warn_faults)
+    }
+}
+
+/// What the system gave, or a failure that is counted.
+fn or_count<T>(given: io::Result<T>, faults: &mut u64) -> Result<T, Failed>
+    ensures ok { IfOk result (λ value. given ≡ Ok value) }
+    ensures kept { OnOk result (faults.new ≡ faults.old) }
+    ensures counted { OnErr result (faults.new ≡ one_more faults.old) }
+{
+    match given {
+        Ok(value) => Ok(value),
+        Err(_) => {
+            raise(faults);
+            Err(Failed)
         }
     }
 }
 
-impl Kept {
+impl OpenFile {
     /// Opens the file for reading.
-    fn open(rt: HostRuntime, name: &str) -> io::Result<Kept> {
-        Ok(Kept {
+    fn open(rt: HostRuntime, name: &str) -> io::Result<OpenFile>
+        ensures named { IfOk result (λ file. string_bytes file.name ≡ name.now) }
+    {
+        Ok(OpenFile {
             name: String::from_str(rt.alloc(), name)?,
             file: File::open(&rt, name)?,
         })
@@ -160,56 +141,72 @@ impl Kept {
 
     /// Makes the file empty, and opens it for writing. The memory is taken first, so that where
     /// there is none nothing was created.
-    fn create(rt: HostRuntime, name: &str) -> io::Result<Kept> {
-        Ok(Kept {
+    fn create(rt: HostRuntime, name: &str) -> io::Result<OpenFile>
+        ensures named { IfOk result (λ file. string_bytes file.name ≡ name.now) }
+    {
+        Ok(OpenFile {
             name: String::from_str(rt.alloc(), name)?,
             file: File::create(&rt, name)?,
         })
     }
 
     /// Opens the file for writing at its end.
-    fn append(rt: HostRuntime, name: &str) -> io::Result<Kept> {
-        Ok(Kept {
+    fn append(rt: HostRuntime, name: &str) -> io::Result<OpenFile>
+        ensures named { IfOk result (λ file. string_bytes file.name ≡ name.now) }
+    {
+        Ok(OpenFile {
             name: String::from_str(rt.alloc(), name)?,
             file: OpenOptions::new().append(true).open(&rt, name)?,
         })
     }
 }
 
-/// Reads from the kept file where it has this name, and else opens and keeps it.
-fn read_kept(
+/// Reads from the file that is open where it has this name, and else opens it; either way it
+/// stays open.
+fn read_open(
     rt: HostRuntime,
-    slot: &mut Option<Kept>,
+    slot: &mut Option<OpenFile>,
     name: &str,
     at: u64,
     buf: &mut [u8],
 ) -> io::Result<usize>
-    ensures { IfOk result (λ n. n ≤ length buf.new) }
+    ensures within { IfOk result (λ n. n ≤ length buf.new) }
+    ensures named { OnOk result (IsSomeAnd slot.new (λ file. string_bytes file.name ≡ name.now)) }
 {
-    let kept = match slot.take() {
-        Some(kept) if kept.name.as_str() == name => kept,
-        _ => Kept::open(rt, name)?,
+    let open = match slot.take() {
+        Some(open) if open.name.as_str() == name => open,
+        _ => OpenFile::open(rt, name)?,
     };
-    let given = kept.file.read_at(buf, at);
-    *slot = Some(kept);
+    let given = open.file.read_at(buf, at);
+    *slot = Some(open);
     given
 }
 
-/// Writes to the kept file where it has this name, and else opens and keeps it.
-fn append_kept(
+/// Makes the file empty, which then is the one that is open.
+fn create_open(rt: HostRuntime, slot: &mut Option<OpenFile>, name: &str) -> io::Result<()>
+    ensures named { OnOk result (IsSomeAnd slot.new (λ file. string_bytes file.name ≡ name.now)) }
+{
+    *slot = Some(OpenFile::create(rt, name)?);
+    Ok(())
+}
+
+/// Writes to the file that is open where it has this name, and else opens it; either way it
+/// stays open.
+fn append_open(
     rt: HostRuntime,
-    slot: &mut Option<Kept>,
+    slot: &mut Option<OpenFile>,
     name: &str,
     piece: &[u8],
 ) -> io::Result<usize>
-    ensures { IfOk result (λ n. Takes piece.now n) }
+    ensures takes { IfOk result (λ n. Takes piece.now n) }
+    ensures named { OnOk result (IsSomeAnd slot.new (λ file. string_bytes file.name ≡ name.now)) }
 {
-    let mut kept = match slot.take() {
-        Some(kept) if kept.name.as_str() == name => kept,
-        _ => Kept::append(rt, name)?,
+    let mut open = match slot.take() {
+        Some(open) if open.name.as_str() == name => open,
+        _ => OpenFile::append(rt, name)?,
     };
-    let taken = write_some(&mut kept.file, piece);
-    *slot = Some(kept);
+    let taken = write_some(&mut open.file, piece);
+    *slot = Some(open);
     taken
 }
 

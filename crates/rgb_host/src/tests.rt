@@ -1,11 +1,10 @@
 //! What the calls answer over small files, one listed failure at a time.
 ghost use Rattle.std.specs.Prelude.{◌≤◌};
 
-use crate::{Failed, FileMap, Host, MemoryHost, Numbers, RealHost, print_all, warn_all, write_all};
+use crate::{Failed, FileMap, Host, MemoryHost, Numbers, print_all, warn_all, write_all};
 use std::alloc::{AllocError, Global};
 use std::collections::BTreeMap;
 use std::test::Fail;
-use std::{env, fs, process};
 
 const TEN: &[u8] = b"0123456789";
 
@@ -26,13 +25,6 @@ fn host_with_ten(
     let reads = Numbers::of(Vec::from_slice(alloc, failing_reads)?);
     let writes = Numbers::of(Vec::from_slice(alloc, failing_writes)?);
     Ok(MemoryHost::new(alloc, FileMap::of(files), reads, writes, most))
-}
-
-/// Creates the file, writes all ten bytes, and reads a first piece back.
-fn write_and_read<H: Host>(host: &mut H, name: &str, buf: &mut [u8]) -> Result<usize, Failed> {
-    host.create(name)?;
-    write_all(host, name, TEN)?;
-    host.read_at(name, 0, buf)
 }
 
 #[test]
@@ -142,22 +134,26 @@ fn leaves_a_front_after_a_failure(rt: HostRuntime) -> Result<(), Fail> {
     Ok(())
 }
 
+/// So many bytes, as a piece that is longer than any buffer.
+fn long_piece(alloc: Global) -> Result<Vec<u8>, AllocError> {
+    let mut piece = Vec::with_capacity(alloc, 100_000)?;
+    for byte in TEN.iter().cycle().take(100_000) {
+        piece.push(*byte)?;
+    }
+    Ok(piece)
+}
+
 #[test]
-fn works_on_a_real_file(rt: HostRuntime) -> Result<(), Fail> {
-    let folder = env::temp_dir(&rt)?;
-    let path = format!(in rt.alloc();
-        "{}/rgb_host_{}",
-        folder.as_str(),
-        process::id(rt.process())
-    )?;
-    let mut host = RealHost::new(rt);
-    let mut buf = [0u8; 7];
-    assert!(rt; host.read_at(path.as_str(), 0, &mut buf).is_err());
-    assert_eq!(rt; write_and_read(&mut host, path.as_str(), &mut buf), Ok(7));
-    assert_eq!(rt; &buf, b"0123456");
-    assert_eq!(rt; host.read_at(path.as_str(), 9, &mut buf), Ok(1));
-    assert_eq!(rt; buf[0], b'9');
-    assert_eq!(rt; host.read_at(path.as_str(), 10, &mut buf), Ok(0));
-    fs::remove_file(&rt, path.as_str())?;
+fn writes_a_long_piece(rt: HostRuntime) -> Result<(), Fail> {
+    let piece = long_piece(rt.alloc())?;
+    for most in [4096, 65536, 1_000_000] {
+        assert!(rt; most >= 1);
+        let mut host = host_with_ten(rt.alloc(), most, &[], &[])?;
+        host.create("out")?;
+        write_all(&mut host, "out", &piece)?;
+        print_all(&mut host, &piece)?;
+        assert!(rt; host.file("out") == Some(piece.as_slice()), "most {most}");
+        assert!(rt; host.printed() == piece.as_slice(), "most {most}");
+    }
     Ok(())
 }

@@ -1,21 +1,16 @@
 //! Writing whole pieces through calls that may take a part of one.
-ghost use Rattle.std.specs.Prelude.{◌≡◌, ℕ, ◌≤◌, ◌++◌, length, take, option_map, OnOk, OnErr};
-ghost use Rattle.rgb_host.specs.Files.{IsMissing, Rose, appended};
+ghost use Rattle.std.specs.Prelude.{◌≡◌, OnOk, OnErr};
+ghost use Rattle.rgb_host.specs.Seen.{Lacks, grown, with_print, with_warning, AppendedThenFailed, PrintedThenFailed, WarnedThenFailed};
 
 use crate::host::{Failed, Host};
 
-/// Appends all of the bytes to the named file. After a failure a front of them was appended.
+/// Appends all of the bytes to the named file. After a failure the first of them were appended.
 pub fn write_all<H: Host>(host: &mut H, name: &str, bytes: &[u8]) -> Result<(), Failed>
-    requires { ¬ IsMissing (H.files host.old) name.now }
-    ensures ok { OnOk result (H.files host.new ≡ option_map (appended name.now bytes.now) (H.files host.old)) }
-    ensures there { ¬ IsMissing (H.files host.new) name.now }
-    ensures err { OnErr result ((n : ℕ) × (n ≤ length bytes.now) × (H.files host.new ≡ option_map (appended name.now (take n bytes.now)) (H.files host.old))) }
-    ensures fault { OnErr result (Rose (H.write_faults host.old) (H.write_faults host.new)) }
-    ensures counts { H.write_faults host.old ≤ H.write_faults host.new }
-    ensures printed { H.printed host.new ≡ H.printed host.old }
-    ensures warned { H.warned host.new ≡ H.warned host.old }
-    ensures read_faults { H.read_faults host.new ≡ H.read_faults host.old }
-    ensures warn_faults { H.warn_faults host.new ≡ H.warn_faults host.old }
+    requires { ¬ Lacks (H.seen host.old) name.now }
+    ensures ok { OnOk result (H.seen host.new ≡ grown name.now bytes.now (H.seen host.old)) }
+    ensures there { ¬ Lacks (H.seen host.new) name.now }
+    ensures fault { OnErr result
+        (AppendedThenFailed name.now bytes.now (H.seen host.old) (H.seen host.new)) }
 {
     let mut rest = bytes;
     while !rest.is_empty() {
@@ -25,16 +20,10 @@ pub fn write_all<H: Host>(host: &mut H, name: &str, bytes: &[u8]) -> Result<(), 
     Ok(())
 }
 
-/// Prints all of the text. After a failure a front of it was printed.
+/// Prints all of the text. After a failure the first bytes of it were printed.
 pub fn print_all<H: Host>(host: &mut H, text: &[u8]) -> Result<(), Failed>
-    ensures ok { OnOk result (H.printed host.new ≡ option_map (λ told. told ++ text.now) (H.printed host.old)) }
-    ensures err { OnErr result ((n : ℕ) × (n ≤ length text.now) × (H.printed host.new ≡ option_map (λ told. told ++ take n text.now) (H.printed host.old))) }
-    ensures fault { OnErr result (Rose (H.write_faults host.old) (H.write_faults host.new)) }
-    ensures counts { H.write_faults host.old ≤ H.write_faults host.new }
-    ensures files { H.files host.new ≡ H.files host.old }
-    ensures warned { H.warned host.new ≡ H.warned host.old }
-    ensures read_faults { H.read_faults host.new ≡ H.read_faults host.old }
-    ensures warn_faults { H.warn_faults host.new ≡ H.warn_faults host.old }
+    ensures ok { OnOk result (H.seen host.new ≡ with_print text.now (H.seen host.old)) }
+    ensures fault { OnErr result (PrintedThenFailed text.now (H.seen host.old) (H.seen host.new)) }
 {
     let mut rest = text;
     while !rest.is_empty() {
@@ -44,16 +33,10 @@ pub fn print_all<H: Host>(host: &mut H, text: &[u8]) -> Result<(), Failed>
     Ok(())
 }
 
-/// Warns all of the text. After a failure a front of it was warned.
+/// Warns all of the text. After a failure the first bytes of it were warned.
 pub fn warn_all<H: Host>(host: &mut H, text: &[u8]) -> Result<(), Failed>
-    ensures ok { OnOk result (H.warned host.new ≡ option_map (λ told. told ++ text.now) (H.warned host.old)) }
-    ensures err { OnErr result ((n : ℕ) × (n ≤ length text.now) × (H.warned host.new ≡ option_map (λ told. told ++ take n text.now) (H.warned host.old))) }
-    ensures fault { OnErr result (Rose (H.warn_faults host.old) (H.warn_faults host.new)) }
-    ensures counts { H.warn_faults host.old ≤ H.warn_faults host.new }
-    ensures files { H.files host.new ≡ H.files host.old }
-    ensures printed { H.printed host.new ≡ H.printed host.old }
-    ensures read_faults { H.read_faults host.new ≡ H.read_faults host.old }
-    ensures write_faults { H.write_faults host.new ≡ H.write_faults host.old }
+    ensures ok { OnOk result (H.seen host.new ≡ with_warning text.now (H.seen host.old)) }
+    ensures fault { OnErr result (WarnedThenFailed text.now (H.seen host.old) (H.seen host.new)) }
 {
     let mut rest = text;
     while !rest.is_empty() {

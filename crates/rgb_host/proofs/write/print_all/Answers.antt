@@ -1,22 +1,16 @@
-use Rattle.std.proofs.Common.{rules, arith}
+use Rattle.std.proofs.Common.{rules}
 use Rattle.std.proofs.lemmas.List.{take_rest}
-use Rattle.rgb_host.proofs.Pieces.{added-start, added-step, added-cut}
+use Rattle.rgb_host.proofs.Pieces.{printed-start, printed-step, printed-cut}
 use Rattle.rgb_host.proofs.write.print_all.Goals as goal
 
 pub loop-rest-init : goal.loop-rest-init
-loop-rest-init g c = search (rules, added-start)
+loop-rest-init g c = search (rules, printed-start)
 
-pub returns-in_err-taken-clause-err : goal.returns-in_err-taken-clause-err
-returns-in_err-taken-clause-err g c =
-    let cut = added-cut _ _ _ _ (g.H.Host.printed c.print.new.self) c.loop-rest.invariant.0 c.in_err-taken.ensures.err in
+pub returns-in_err-taken-clause-fault : goal.returns-in_err-taken-clause-fault
+returns-in_err-taken-clause-fault g c =
+    let cut = printed-cut _ _ _ _ _ c.loop-rest.invariant c.in_err-taken.ensures.fault in
     search (rules, cut)
 
 pub loop-rest-preserved : goal.loop-rest-preserved
-loop-rest-preserved g c = (
-  added-step _ _ _ _ _ _ c.in_ok-taken.taken c.loop-rest.invariant.0 c.in_ok-taken.ensures.ok (take_rest c.loop-rest.rest.now c.in_ok-taken.taken),
-  omega (arith, c.in_ok-taken.ensures.counts, c.loop-rest.invariant.1),
-  search rules,
-  search rules,
-  search rules,
-  search rules,
-)
+loop-rest-preserved g c =
+    printed-step _ _ _ _ _ _ c.in_ok-taken.taken c.loop-rest.invariant c.in_ok-taken.ensures.ok (take_rest c.loop-rest.rest.now c.in_ok-taken.taken)

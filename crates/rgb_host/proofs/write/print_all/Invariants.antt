@@ -1,15 +1,9 @@
-use Rattle.std.proofs.Common.{◌≡◌, ◌≤◌, length}
-use Rattle.rgb_host.proofs.Pieces.{Added}
+use Rattle.std.proofs.Common.{length}
+use Rattle.rgb_host.proofs.Pieces.{Printed}
 use Rattle.rgb_host.proofs.write.print_all.Given as goal
 
 abbrev pub invariant-loop-rest : goal.invariant-loop-rest
-invariant-loop-rest g l =
-    Added l.text l.rest (g.H.Host.printed l.initial.host) (g.H.Host.printed l.host)
-    × (g.H.Host.write_faults l.initial.host ≤ g.H.Host.write_faults l.host)
-    × (g.H.Host.files l.host ≡ g.H.Host.files l.initial.host)
-    × (g.H.Host.warned l.host ≡ g.H.Host.warned l.initial.host)
-    × (g.H.Host.read_faults l.host ≡ g.H.Host.read_faults l.initial.host)
-    × (g.H.Host.warn_faults l.host ≡ g.H.Host.warn_faults l.initial.host)
+invariant-loop-rest g l = Printed l.text l.rest (g.H.Host.seen l.initial.host) (g.H.Host.seen l.host)
 
 abbrev pub decreases-loop-rest : goal.decreases-loop-rest
 decreases-loop-rest g l = length l.rest

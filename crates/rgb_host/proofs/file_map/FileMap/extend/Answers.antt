@@ -2,7 +2,7 @@ use Rattle.std.proofs.Common.{◌≡◌, rules, ap, sym, subst, ◌∙◌, optio
 use Rattle.rgb_host.specs.Files.{appended}
 use Rattle.rgb_host.specs.Memory.{told}
 use Rattle.rgb_host.proofs.Told.{get_told, told_there, told_extended}
-use Rattle.rgb_host.proofs.names.FileMap.extend.Goals as goal
+use Rattle.rgb_host.proofs.file_map.FileMap.extend.Goals as goal
 
 pub unreachable-requires : goal.unreachable-requires
 unreachable-requires c =

@@ -1,7 +1,7 @@
 use Rattle.std.proofs.Common.{Some, ap, sym, ◌∙◌, option_map}
 use Rattle.std.specs.FinMap.{get}
 use Rattle.rgb_host.proofs.Told.{get_told}
-use Rattle.rgb_host.proofs.names.FileMap.bytes.Goals as goal
+use Rattle.rgb_host.proofs.file_map.FileMap.bytes.Goals as goal
 
 pub returns-in-Some : goal.returns-in-Some
 returns-in-Some c = record {

@@ -3,7 +3,7 @@ use Rattle.std.specs.Prelude.{string_bytes}
 use Rattle.std.specs.FinMap.{get, insert}
 use Rattle.rgb_host.specs.Memory.{told}
 use Rattle.rgb_host.proofs.Told.{told_update, told_there}
-use Rattle.rgb_host.proofs.names.FileMap.clear.Goals as goal
+use Rattle.rgb_host.proofs.file_map.FileMap.clear.Goals as goal
 
 pub returns-clause-ok : goal.returns-clause-ok
 returns-clause-ok c =

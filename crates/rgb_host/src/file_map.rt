@@ -1,5 +1,5 @@
-//! Small types over std's maps and vectors, which contracts see as a finite map and a list.
-ghost use Rattle.std.specs.Prelude.{◌≡◌, List, [], ℕ, option_copied, OnOk, OnErr};
+//! Files by name, which contracts see as a finite map.
+ghost use Rattle.std.specs.Prelude.{◌≡◌, [], option_copied, OnOk, OnErr};
 ghost use Rattle.std.specs.FinMap.{get, insert};
 ghost use Rattle.rgb_host.specs.Files.{appended};
 ghost use Rattle.rgb_host.specs.Memory.{told};
@@ -75,35 +75,5 @@ impl FileMap {
             Some(bytes) => bytes.extend_from_slice(piece),
             None => unreachable!(),
         }
-    }
-}
-
-/// Whole numbers. Contracts see the list of them.
-#[derive(Debug, Drop)]
-pub struct Numbers {
-    value: Vec<u64>,
-}
-
-impl Model for Numbers {
-    ghost use Rattle.std.specs.Prelude.{ℕ, List};
-
-    ghost Value = { List ℕ };
-
-    ghost view = { λ n. n.value.items };
-}
-
-impl Numbers {
-    /// The numbers of a vector, which keeps its room.
-    pub fn of(value: Vec<u64>) -> Numbers
-        ensures same { result ≡ value.items }
-    {
-        Numbers { value }
-    }
-
-    /// Lends the numbers.
-    pub fn as_slice(&self) -> &[u64]
-        ensures same { result.now ≡ self.now }
-    {
-        &self.value
     }
 }
