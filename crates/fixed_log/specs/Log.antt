@@ -1,4 +1,5 @@
--- The logarithm to base two in fixed point, with sixteen fractional bits, of numbers from 1 to 2^33 - 1.
+-- The logarithm to base two in fixed point, with sixteen fractional bits, of the numbers from 1 to
+-- 2^33 - 1.
 use Rattle.std.specs.Prelude.{◌≡◌, ℕ, zero, suc, ◌+◌, ◌*◌, ◌/◌, ◌^◌, ◌<◌, ◌≤◌, if◌then◌else◌, nat_lt}
 
 -- how often x can be halved, at most so often, until it is below 2
@@ -37,7 +38,8 @@ pub record IsLog (x l : ℕ) : Type 0 where
 
 -- the exponent is that of the greatest power of two that is not above x
 abbrev pub ExponentIsGreatest : Type 0
-ExponentIsGreatest = (x : ℕ) → 0 < x → x < 2 ^ 33 → (2 ^ exponent x ≤ x) × (x < 2 ^ (exponent x + 1))
+ExponentIsGreatest = (x : ℕ) → 0 < x → x < 2 ^ 33
+    → (2 ^ exponent x ≤ x) × (x < 2 ^ (exponent x + 1))
 
 abbrev pub LogIsLog : Type 0
 LogIsLog = (x : ℕ) → 0 < x → x < 2 ^ 33 → IsLog x (lg x)

@@ -7,7 +7,7 @@ use rgb_base::OutOfMemory;
 use std::alloc::Global;
 use std::marker::Model;
 
-/// A table of logarithms. Contracts see the largest number that it has.
+/// A table of logarithms, at 4 bytes an entry. Contracts see the largest number that it has.
 #[derive(Debug, Drop)]
 pub struct LogTable {
     logs: Vec<u32>,

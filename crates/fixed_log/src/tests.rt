@@ -27,3 +27,14 @@ fn table_of_seven(rt: HostRuntime) -> Result<(), Fail> {
     assert_eq!(rt; table.lg(7), 183982);
     Ok(())
 }
+
+#[test]
+fn table_of_many(rt: HostRuntime) -> Result<(), Fail> {
+    let table = LogTable::new(rt.alloc(), 100_000)?;
+    assert_eq!(rt; table.top(), 100_000);
+    assert_eq!(rt; table.lg(65536), 16 * 65536);
+    for x in [3u32, 999, 1001, 65535, 99_999, 100_000] {
+        assert_eq!(rt; table.lg(x), lg(u64::from(x)), "of {x}");
+    }
+    Ok(())
+}
