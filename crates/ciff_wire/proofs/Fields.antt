@@ -4,8 +4,8 @@ use Rattle.std.specs.Int.{w32, w64, to_le_bytes, from_le_bytes}
 use Rattle.std.proofs.lemmas.Nat.{from_le_bytes-to_le_bytes_4, from_le_bytes-to_le_bytes_8}
 use Rattle.ciff_wire.specs.declared.field.FieldFault.{FieldFault}
 use Rattle.ciff_wire.specs.declared.field.FieldFault.TheVariants.{Zero, TooLarge, Group, Reserved, PastEnd, Long}
-use Rattle.ciff_wire.specs.Varint.{sum_of, Spells}
-use Rattle.ciff_wire.specs.Field.{Held, Entry, as_number, as_eight, as_bytes, as_four, wire_of, Holds, SpellsField, HasTag, IsCut, ContentPastEnd, ContentLong, IsFault}
+use Rattle.ciff_wire.specs.Varint.{sum_of, Spells, EndsEarly, RunsOn}
+use Rattle.ciff_wire.specs.Field.{Held, Entry, as_number, as_eight, as_bytes, as_four, wire_of, Holds, SpellsField, IsNumber, HasTag, IsCut, ContentEnds, in_number, in_eight, in_length, in_bytes, in_four, IsTagFault, IsContentFault, IsFault, tag_runs_on, tag_ends, in_tag, in_content}
 use Rattle.ciff_wire.proofs.SpellingFacts.{same_parts, read_once, not_early, not_long}
 use Rattle.ciff_wire.proofs.Spellings.{none_is_front}
 
@@ -103,7 +103,7 @@ tag_once s x m a p number wire rest e t =
       rest_is = sym once.1 ∙ sym t.rest_is;
     }
 
-held_not_long : (c x rest : List ℕ) (h : Held) (wire : ℕ) → Holds c h → wire ≡ wire_of h → c ++ x ≡ rest → ContentLong wire rest → ⊥
+held_not_long : (c x rest : List ℕ) (h : Held) (wire : ℕ) → Holds c h → wire ≡ wire_of h → c ++ x ≡ rest → ((wire ≡ 0) ⊎ (wire ≡ 2)) × RunsOn rest → ⊥
 held_not_long c x rest (as_number v) wire k w e f = not_long c x rest k.spelling e f.1
 held_not_long c x rest (as_eight v) wire k w e f = elim f.0 [ inl z ↦ omega (arith, w, z) | inr z ↦ omega (arith, w, z) ]
 held_not_long c x rest (as_bytes v) wire k w e f =
@@ -117,46 +117,34 @@ bytes_not_cut c x rest bs k e f =
     let len : f.len ≡ length bs = once.2 ∙ k.1.sum in
     omega (arith, len, once.3, f.short, ap length front, length-append k.0 (bs ++ x), length-append bs x)
 
--- what the end of the bytes inside the content would be, for each of the four
-held_not_past : (c x rest : List ℕ) (h : Held) (wire : ℕ) → Holds c h → wire ≡ wire_of h → c ++ x ≡ rest → ContentPastEnd wire rest → ⊥
-held_not_past c x rest (as_number v) wire k w e f =
-    elim f [
-      | inl z ↦ not_early c x rest k.spelling e z.1
-      | inr g ↦ elim g [
-        | inl z ↦ omega (arith, w, z.0)
-        | inr i ↦ elim i [ inl z ↦ omega (arith, w, z.0) | inr z ↦ omega (arith, w, z.0) ]
-      ]
-    ]
-held_not_past c x rest (as_eight v) wire k w e f =
-    elim f [
-      | inl z ↦ omega (arith, w, z.0)
-      | inr g ↦ elim g [
-        | inl z ↦ omega (arith, z.1, ap length k.1, ap length e, length-append c x)
-        | inr i ↦ elim i [ inl z ↦ omega (arith, w, z.0) | inr z ↦ omega (arith, w, z.0) ]
-      ]
-    ]
-held_not_past c x rest (as_bytes v) wire k w e f =
-    elim f [
-      | inl z ↦ omega (arith, w, z.0)
-      | inr g ↦ elim g [
-        | inl z ↦ omega (arith, w, z.0)
-        | inr i ↦ elim i [
-          | inl z ↦ elim z.1 [
-            | inl early ↦ not_early k.0 (v ++ x) rest k.1.spelling (sym (append_assoc k.0 v x) ∙ sym (ap (λ (t : List ℕ). t ++ x) k.2) ∙ e) early
-            | inr cut ↦ bytes_not_cut c x rest v k e cut
-          ]
-          | inr z ↦ omega (arith, w, z.0)
-        ]
-      ]
-    ]
-held_not_past c x rest (as_four v) wire k w e f =
-    elim f [
-      | inl z ↦ omega (arith, w, z.0)
-      | inr g ↦ elim g [
-        | inl z ↦ omega (arith, w, z.0)
-        | inr i ↦ elim i [ inl z ↦ omega (arith, w, z.0) | inr z ↦ omega (arith, z.1, ap length k.1, ap length e, length-append c x) ]
-      ]
-    ]
+held_not_early : (c x rest : List ℕ) (h : Held) → Holds c h → c ++ x ≡ rest → (wire_of h ≡ 0) ⊎ (wire_of h ≡ 2) → EndsEarly rest → ⊥
+held_not_early c x rest (as_number v) k e w early = not_early c x rest k.spelling e early
+held_not_early c x rest (as_eight v) k e w early = elim w [ inl z ↦ omega (arith, z) | inr z ↦ omega (arith, z) ]
+held_not_early c x rest (as_bytes v) k e w early =
+    not_early k.0 (v ++ x) rest k.1.spelling (sym (append_assoc k.0 v x) ∙ sym (ap (λ (t : List ℕ). t ++ x) k.2) ∙ e) early
+held_not_early c x rest (as_four v) k e w early = elim w [ inl z ↦ omega (arith, z) | inr z ↦ omega (arith, z) ]
+
+held_not_few : (c x rest : List ℕ) (h : Held) (few : ℕ) → Holds c h → c ++ x ≡ rest → ((wire_of h ≡ 1) × (few ≡ 8)) ⊎ ((wire_of h ≡ 5) × (few ≡ 4)) → length rest < few → ⊥
+held_not_few c x rest (as_number v) few k e w short = elim w [ inl z ↦ omega (arith, z.0) | inr z ↦ omega (arith, z.0) ]
+held_not_few c x rest (as_eight v) few k e w short =
+    elim w [ inl z ↦ omega (arith, z.1, short, ap length k.1, ap length e, length-append c x) | inr z ↦ omega (arith, z.0) ]
+held_not_few c x rest (as_bytes v) few k e w short = elim w [ inl z ↦ omega (arith, z.0) | inr z ↦ omega (arith, z.0) ]
+held_not_few c x rest (as_four v) few k e w short =
+    elim w [ inl z ↦ omega (arith, z.0) | inr z ↦ omega (arith, z.1, short, ap length k.1, ap length e, length-append c x) ]
+
+held_not_cut : (c x rest : List ℕ) (h : Held) → Holds c h → c ++ x ≡ rest → wire_of h ≡ 2 → IsCut rest → ⊥
+held_not_cut c x rest (as_number v) k e w cut = omega (arith, w)
+held_not_cut c x rest (as_eight v) k e w cut = omega (arith, w)
+held_not_cut c x rest (as_bytes v) k e w cut = bytes_not_cut c x rest v k e cut
+held_not_cut c x rest (as_four v) k e w cut = omega (arith, w)
+
+-- the bytes do not end inside the content
+held_not_past : (c x rest : List ℕ) (h : Held) (wire : ℕ) → Holds c h → wire ≡ wire_of h → c ++ x ≡ rest → ContentEnds wire rest → ⊥
+held_not_past c x rest h wire k w e (in_number z early) = held_not_early c x rest h k e (inl (sym w ∙ z)) early
+held_not_past c x rest h wire k w e (in_eight z few) = held_not_few c x rest h 8 k e (inl (sym w ∙ z, refl)) few
+held_not_past c x rest h wire k w e (in_length z early) = held_not_early c x rest h k e (inr (sym w ∙ z)) early
+held_not_past c x rest h wire k w e (in_bytes z cut) = held_not_cut c x rest h k e (sym w ∙ z) cut
+held_not_past c x rest h wire k w e (in_four z few) = held_not_few c x rest h 4 k e (inr (sym w ∙ z, refl)) few
 
 wire_known : (h : Held) → (wire_of h ≡ 0) ⊎ ((wire_of h ≡ 1) ⊎ ((wire_of h ≡ 2) ⊎ (wire_of h ≡ 5)))
 wire_known (as_number v) = inl refl
@@ -164,32 +152,32 @@ wire_known (as_eight v) = inr (inl refl)
 wire_known (as_bytes v) = inr (inr (inl refl))
 wire_known (as_four v) = inr (inr (inr refl))
 
+tag_is_good : (a : Entry) (number wire : ℕ) (fault : FieldFault) → IsNumber a.number → number ≡ a.number → wire ≡ wire_of a.held → IsTagFault number wire fault → ⊥
+tag_is_good a number wire Zero good n w wrong = omega (arith, n, good.0, wrong)
+tag_is_good a number wire TooLarge good n w wrong = omega (arith, n, good.1, wrong)
+tag_is_good a number wire Group good n w wrong =
+    let known = wire_known a.held in
+    elim wrong.1 [ inl z ↦ omega (arith, known, w, z) | inr z ↦ omega (arith, known, w, z) ]
+tag_is_good a number wire Reserved good n w wrong =
+    let known = wire_known a.held in
+    elim wrong.1 [ inl z ↦ omega (arith, known, w, z) | inr z ↦ omega (arith, known, w, z) ]
+tag_is_good a number wire PastEnd good n w wrong = wrong
+tag_is_good a number wire Long good n w wrong = wrong
+
+content_is_good : (c x rest : List ℕ) (h : Held) (wire : ℕ) (fault : FieldFault) → Holds c h → wire ≡ wire_of h → c ++ x ≡ rest → IsContentFault wire rest fault → ⊥
+content_is_good c x rest h wire Zero k w e wrong = wrong
+content_is_good c x rest h wire TooLarge k w e wrong = wrong
+content_is_good c x rest h wire Group k w e wrong = wrong
+content_is_good c x rest h wire Reserved k w e wrong = wrong
+content_is_good c x rest h wire PastEnd k w e wrong = held_not_past c x rest h wire k w e wrong
+content_is_good c x rest h wire Long k w e wrong = held_not_long c x rest h wire k w e wrong
+
 pub field_no_fault : (s x m : List ℕ) (a : Entry) (fault : FieldFault) → SpellsField s a → s ++ x ≡ m → IsFault m fault → ⊥
-field_no_fault s x m a Zero p e f =
-    let t = tag_once s x m a p 0 f.0 f.1 e f.2 in
-    omega (arith, t.number_is, p.number.0)
-field_no_fault s x m a TooLarge p e f =
-    let t = tag_once s x m a p f.0 f.1 f.2 e f.3 in
-    omega (arith, t.number_is, p.number.1, f.4)
-field_no_fault s x m a Group p e f =
-    let t = tag_once s x m a p f.0 f.1 f.2 e f.3 in
-    let known = wire_known a.held in
-    elim f.5 [ inl z ↦ omega (arith, known, t.wire_is, z) | inr z ↦ omega (arith, known, t.wire_is, z) ]
-field_no_fault s x m a Reserved p e f =
-    let t = tag_once s x m a p f.0 f.1 f.2 e f.3 in
-    let known = wire_known a.held in
-    elim f.5 [ inl z ↦ omega (arith, known, t.wire_is, z) | inr z ↦ omega (arith, known, t.wire_is, z) ]
-field_no_fault s x m a PastEnd p e f =
-    elim f [
-      | inl z ↦ not_early p.tag (p.content ++ x) m p.spells_tag.spelling (front s x m a p e) z.1
-      | inr g ↦
-          let t = tag_once s x m a p g.0 g.1 g.2 e g.3 in
-          held_not_past p.content x g.2 a.held g.1 p.spells_content t.wire_is t.rest_is g.5
-    ]
-field_no_fault s x m a Long p e f =
-    elim f [
-      | inl z ↦ not_long p.tag (p.content ++ x) m p.spells_tag.spelling (front s x m a p e) z
-      | inr g ↦
-          let t = tag_once s x m a p g.0 g.1 g.2 e g.3 in
-          held_not_long p.content x g.2 a.held g.1 p.spells_content t.wire_is t.rest_is g.5
-    ]
+field_no_fault s x m a fault p e (tag_runs_on on is) = not_long p.tag (p.content ++ x) m p.spells_tag.spelling (front s x m a p e) on
+field_no_fault s x m a fault p e (tag_ends some early is) = not_early p.tag (p.content ++ x) m p.spells_tag.spelling (front s x m a p e) early
+field_no_fault s x m a fault p e (in_tag number wire rest tag wrong) =
+    let t = tag_once s x m a p number wire rest e tag in
+    tag_is_good a number wire fault p.number t.number_is t.wire_is wrong
+field_no_fault s x m a fault p e (in_content number wire rest tag good wrong) =
+    let t = tag_once s x m a p number wire rest e tag in
+    content_is_good p.content x rest a.held wire fault p.spells_content t.wire_is t.rest_is wrong

@@ -7,3 +7,4 @@ pub mod Fields
 pub mod Messages
 pub mod Taking
 pub mod Faults
+pub mod Readings

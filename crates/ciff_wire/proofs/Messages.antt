@@ -1,10 +1,8 @@
 -- A message has one list of fields, and the canonical spelling of fields is a message of them.
-use Rattle.std.proofs.Common.{◌≡◌, ℕ, ◌+◌, ◌*◌, List, [], ◌∷◌, ◌++◌, length, take, drop, refl, sym, ap, subst, ◌∙◌, arith, inl, inr, length-append}
+use Rattle.std.proofs.Common.{◌≡◌, ℕ, ◌+◌, ◌*◌, List, [], ◌∷◌, ◌++◌, length, take, drop, refl, sym, ap, subst, ◌∙◌, arith, length-append}
 use Rattle.std.proofs.lemmas.List.{take-append-drop, length-take}
 use Rattle.ciff_wire.specs.declared.field.FieldFault.{FieldFault}
-use Rattle.ciff_wire.specs.declared.field.FieldFault.TheVariants.{Zero, TooLarge, Group, Reserved, PastEnd, Long}
-use Rattle.ciff_wire.specs.Varint.{RunsOn}
-use Rattle.ciff_wire.specs.Field.{Held, Entry, as_number, as_eight, as_bytes, as_four, wire_of, Holds, SpellsField, IsMessage, HasTag, IsFault}
+use Rattle.ciff_wire.specs.Field.{Held, Entry, as_number, as_eight, as_bytes, as_four, wire_of, Holds, SpellsField, IsMessage, HasTag, IsFault, tag_runs_on, tag_ends, in_tag, in_content}
 use Rattle.ciff_wire.specs.Canonical.{spelling_of, spelling_of_held, message_of, tag_of}
 use Rattle.ciff_wire.specs.Laws.{FitsHeld, CanonicalSpells, CanonicalIsMessage, OneMessage, FirstIsTaken, FirstIsPut, FaultIsNoMessage, FieldIsTakenAgain, FieldIsNoFault}
 use Rattle.ciff_wire.proofs.SpellingFacts.{varint_spells}
@@ -62,17 +60,11 @@ no_tag : (m : List ℕ) (number wire : ℕ) (rest : List ℕ) → m ≡ [] → H
 no_tag m number wire rest e t =
     omega (arith, ap length e, t.reads.within, length-take t.used m, t.reads.spells.spelling.some)
 
-no_run : (m : List ℕ) → m ≡ [] → RunsOn m → ⊥
-no_run m e r = omega (arith, ap length e, r.many)
-
 empty_no_fault : (m : List ℕ) (fault : FieldFault) → m ≡ [] → IsFault m fault → ⊥
-empty_no_fault m Zero e f = no_tag m 0 f.0 f.1 e f.2
-empty_no_fault m TooLarge e f = no_tag m f.0 f.1 f.2 e f.3
-empty_no_fault m Group e f = no_tag m f.0 f.1 f.2 e f.3
-empty_no_fault m Reserved e f = no_tag m f.0 f.1 f.2 e f.3
-empty_no_fault m PastEnd e f =
-    elim f [ inl z ↦ omega (arith, ap length e, z.0) | inr g ↦ no_tag m g.0 g.1 g.2 e g.3 ]
-empty_no_fault m Long e f = elim f [ inl z ↦ no_run m e z | inr g ↦ no_tag m g.0 g.1 g.2 e g.3 ]
+empty_no_fault m fault e (tag_runs_on on is) = omega (arith, ap length e, on.many)
+empty_no_fault m fault e (tag_ends some early is) = omega (arith, ap length e, some)
+empty_no_fault m fault e (in_tag number wire rest tag wrong) = no_tag m number wire rest e tag
+empty_no_fault m fault e (in_content number wire rest tag good wrong) = no_tag m number wire rest e tag
 
 pub fault_is_no_message : FaultIsNoMessage
 fault_is_no_message m fault [] f q = empty_no_fault m fault q f

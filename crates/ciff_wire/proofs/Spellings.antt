@@ -1,5 +1,5 @@
 -- Spellings by recursion on their bytes: the shortest of a number, and that none is the front of another.
-use Rattle.std.proofs.Common.{◌≡◌, ℕ, zero, suc, ◌+◌, ◌-◌, ◌*◌, ◌/◌, ◌%◌, ◌^◌, ◌<◌, ◌≤◌, List, [], ◌∷◌, ◌++◌, length, take, drop, get_or, sym, refl, ap, ◌∙◌, subst, inl, inr, lit<, arith}
+use Rattle.std.proofs.Common.{◌≡◌, ℕ, zero, suc, ◌+◌, ◌-◌, ◌*◌, ◌/◌, ◌%◌, ◌^◌, ◌<◌, ◌≤◌, ◌≢◌, List, [], ◌∷◌, ◌++◌, length, take, drop, get_or, sym, refl, ap, ◌∙◌, subst, inl, inr, lit<, arith}
 use Rattle.std.specs.List.{AllByRecursion}
 use Rattle.std.proofs.Math.Nat.{pow-suc}
 use Rattle.std.proofs.lemmas.Nat.{div_below}
@@ -9,7 +9,7 @@ use Rattle.std.proofs.lemmas.List.Elements.{All-from_recursion, recursion_from_A
 use Rattle.ciff_wire.specs.declared.varint.Varint.{Varint}
 use Rattle.ciff_wire.specs.declared.varint.Varint.TheVariants.{Done, Short, Long}
 use Rattle.ciff_wire.specs.Varint.{sum_of, IsSpelling, IsRead, groups, varint}
-use Rattle.ciff_wire.specs.Laws.{VarintIsShortest, ShortestIsOne, NoneIsFront, SpellingIsReadAgain, ReadIsOne}
+use Rattle.ciff_wire.specs.Laws.{VarintIsShortest, ShortestIsOne, VarintIsCanonical, CanonicalVarintIsOne, NoneIsFront, SpellingIsReadAgain, ReadIsOne}
 use Rattle.ciff_wire.proofs.Varints.{weight, weight_lt, sum_of-weight}
 use Rattle.ciff_wire.proofs.Groups.{groups-small, groups-large}
 
@@ -217,3 +217,30 @@ read_is_one bytes Short Long is is_other = absurd (omega arith)
 read_is_one bytes Long (Done value used) is is_other = again_at bytes value used Long is_other is
 read_is_one bytes Long Short is is_other = absurd (omega arith)
 read_is_one bytes Long Long is is_other = refl
+
+pub varint_is_canonical : VarintIsCanonical
+varint_is_canonical v fits =
+    let least = varint_is_shortest v fits in
+    record {
+      spelling = least.0;
+      sum = least.1;
+      shortest = λ other spelling sum differs. elim (cases_lt (length (varint v)) (length other)) [
+        | inl longer ↦ longer
+        | inr few ↦ absurd (differs (shortest_is_one v other fits spelling sum few))
+      ];
+    }
+
+-- of two lists of bytes, one is not shorter
+pub canonical_varint_is_one : CanonicalVarintIsOne
+canonical_varint_is_one v bytes fits is =
+    let least = varint_is_shortest v fits in
+    let few : length bytes ≤ length (varint v) = elim (cases_lt (length (varint v)) (length bytes)) [
+      | inr few ↦ few
+      | inl longer ↦ absurd (shorter (is.shortest (varint v) least.0 least.1) longer)
+    ] in
+    shortest_is_one v bytes fits is.spelling is.sum few
+  where
+    shorter : (varint v ≢ bytes → length bytes < length (varint v)) → length (varint v) < length bytes → ⊥
+    shorter less longer =
+        let differs : varint v ≢ bytes = λ same. omega (arith, ap length same, longer) in
+        omega (arith, less differs, longer)

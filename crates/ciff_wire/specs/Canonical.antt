@@ -21,9 +21,12 @@ spelling_of entry = tag_of entry.number (wire_of entry.held) ++ spelling_of_held
 unfoldable pub message_of : List Entry → List ℕ
 message_of entries = flat_map spelling_of entries
 
--- a number's field, left out where the value is 0; a negative value is spelt as its 64-bit two's complement
+-- a number's field, left out where the value is 0; a negative value is spelt as its two's
+-- complement of 64 bits
 abbrev pub number_field : ℕ → ℤ → List Entry
-number_field n value = if cast_unsigned w64 value == 0 then [] else record { number = n; held = as_number (cast_unsigned w64 value) } ∷ []
+number_field n value =
+    if cast_unsigned w64 value == 0 then []
+    else record { number = n; held = as_number (cast_unsigned w64 value) } ∷ []
 
 -- the front of a field of bytes, up to its length
 abbrev pub head_of : ℕ → ℕ → List ℕ

@@ -7,8 +7,11 @@ use Rattle.ciff_wire.specs.declared.field.Content.TheVariants as code
 use Rattle.ciff_wire.specs.declared.field.Field.{Field}
 use Rattle.ciff_wire.specs.declared.field.FieldFault.{FieldFault}
 use Rattle.ciff_wire.specs.declared.field.FieldFault.TheVariants as faults
+use Rattle.ciff_wire.specs.declared.field.Wire.{Wire}
+use Rattle.ciff_wire.specs.declared.field.Wire.TheVariants as wires
 
--- what a field holds: a number of 64 bits, eight bytes or four as the number that they make, the low byte first, or bytes
+-- what a field holds: a number of 64 bits, eight bytes or four as the number that they make, the
+-- low byte first, or bytes
 pub data Held : Type 0 where
   as_number : ℕ → Held
   as_eight : ℕ → Held
@@ -48,7 +51,9 @@ pub record SpellsField (text : List ℕ) (entry : Entry) : Type 0 where
 -- the message is the concatenation of spellings of the fields, in order
 abbrev pub IsMessage : List ℕ → List Entry → Type 0
 IsMessage message [] = message ≡ []
-IsMessage message (entry ∷ entries) = (text : List ℕ) × (rest : List ℕ) × SpellsField text entry × IsMessage rest entries × (message ≡ text ++ rest)
+IsMessage message (entry ∷ entries) =
+    (text : List ℕ) × (rest : List ℕ)
+    × SpellsField text entry × IsMessage rest entries × (message ≡ text ++ rest)
 
 -- ---- faults
 
@@ -68,30 +73,43 @@ pub record IsCut (content : List ℕ) : Type 0 where
   pub reads : Reads content len used
   pub short : length content < used + len
 
--- the bytes end inside the content of this wire type
-abbrev pub ContentPastEnd : ℕ → List ℕ → Type 0
-ContentPastEnd wire content =
-    ((wire ≡ 0) × EndsEarly content)
-    ⊎ (((wire ≡ 1) × (length content < 8))
-    ⊎ (((wire ≡ 2) × (EndsEarly content ⊎ IsCut content))
-    ⊎ ((wire ≡ 5) × (length content < 4))))
+-- the bytes end inside the content of this wire type: in a number, in eight bytes, in a length,
+-- in the bytes behind a length, or in four bytes
+pub data ContentEnds (wire : ℕ) (content : List ℕ) : Type 0 where
+  in_number : wire ≡ 0 → EndsEarly content → ContentEnds wire content
+  in_eight : wire ≡ 1 → length content < 8 → ContentEnds wire content
+  in_length : wire ≡ 2 → EndsEarly content → ContentEnds wire content
+  in_bytes : wire ≡ 2 → IsCut content → ContentEnds wire content
+  in_four : wire ≡ 5 → length content < 4 → ContentEnds wire content
 
--- the varint of the content runs on: the number itself, or the length
-abbrev pub ContentLong : ℕ → List ℕ → Type 0
-ContentLong wire content = ((wire ≡ 0) ⊎ (wire ≡ 2)) × RunsOn content
+-- what is wrong with a tag's field number and wire type, in the order in which it is looked for
+abbrev pub IsTagFault : ℕ → ℕ → FieldFault → Type 0
+IsTagFault number wire faults.Zero = number ≡ 0
+IsTagFault number wire faults.TooLarge = 2 ^ 29 ≤ number
+IsTagFault number wire faults.Group = IsNumber number × ((wire ≡ 3) ⊎ (wire ≡ 4))
+IsTagFault number wire faults.Reserved = IsNumber number × ((wire ≡ 6) ⊎ (wire ≡ 7))
+IsTagFault number wire faults.PastEnd = ⊥
+IsTagFault number wire faults.Long = ⊥
 
--- a good tag stands at the front, and then content at fault
-abbrev pub TagThen : (ℕ → List ℕ → Type 0) → List ℕ → Type 0
-TagThen Fault message = (number : ℕ) × (wire : ℕ) × (rest : List ℕ) × HasTag message number wire rest × IsNumber number × Fault wire rest
+-- what is wrong with content of this wire type: its varint runs on (the number or the length), or
+-- the bytes end inside it
+abbrev pub IsContentFault : ℕ → List ℕ → FieldFault → Type 0
+IsContentFault wire content faults.Long = ((wire ≡ 0) ⊎ (wire ≡ 2)) × RunsOn content
+IsContentFault wire content faults.PastEnd = ContentEnds wire content
+IsContentFault wire content faults.Zero = ⊥
+IsContentFault wire content faults.TooLarge = ⊥
+IsContentFault wire content faults.Group = ⊥
+IsContentFault wire content faults.Reserved = ⊥
 
--- what is wrong at the front of a message; the cases exclude each other, and exclude a field
-abbrev pub IsFault : List ℕ → FieldFault → Type 0
-IsFault message faults.Long = RunsOn message ⊎ TagThen ContentLong message
-IsFault message faults.PastEnd = ((0 < length message) × EndsEarly message) ⊎ TagThen ContentPastEnd message
-IsFault message faults.Zero = (wire : ℕ) × (rest : List ℕ) × HasTag message 0 wire rest
-IsFault message faults.TooLarge = (number : ℕ) × (wire : ℕ) × (rest : List ℕ) × HasTag message number wire rest × (2 ^ 29 ≤ number)
-IsFault message faults.Group = TagThen (λ wire rest. (wire ≡ 3) ⊎ (wire ≡ 4)) message
-IsFault message faults.Reserved = TagThen (λ wire rest. (wire ≡ 6) ⊎ (wire ≡ 7)) message
+-- what is wrong at the front of a message, in the order in which it is looked for: the tag's
+-- varint, the tag, the content behind a good tag; the cases exclude each other, and exclude a field
+pub data IsFault (message : List ℕ) (fault : FieldFault) : Type 0 where
+  tag_runs_on : RunsOn message → fault ≡ faults.Long → IsFault message fault
+  tag_ends : 0 < length message → EndsEarly message → fault ≡ faults.PastEnd → IsFault message fault
+  in_tag : (number wire : ℕ) (rest : List ℕ) → HasTag message number wire rest
+      → IsTagFault number wire fault → IsFault message fault
+  in_content : (number wire : ℕ) (rest : List ℕ) → HasTag message number wire rest → IsNumber number
+      → IsContentFault wire rest fault → IsFault message fault
 
 -- what a content and a field of the code hold
 abbrev pub held_of : Content → Held
@@ -102,3 +120,10 @@ held_of (code.Four v) = as_four v
 
 abbrev pub entry_of : Field → Entry
 entry_of field = record { number = field.number; held = held_of field.content }
+
+-- the wire type of a tag of the code
+abbrev pub number_of_wire : Wire → ℕ
+number_of_wire wires.Number = 0
+number_of_wire wires.Eight = 1
+number_of_wire wires.Bytes = 2
+number_of_wire wires.Four = 5

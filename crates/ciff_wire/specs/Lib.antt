@@ -2,4 +2,3 @@ pub mod Varint
 pub mod Field
 pub mod Canonical
 pub mod Laws
-pub mod FieldSteps

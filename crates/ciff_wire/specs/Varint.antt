@@ -1,6 +1,6 @@
--- Varints (Protocol Buffers, "Encoding", base 128 varints): seven bits of each byte, the low group first,
--- with the top bit set on every byte but the last, and at most ten bytes.
-use Rattle.std.specs.Prelude.{◌≡◌, ℕ, zero, suc, ◌+◌, ◌-◌, ◌*◌, ◌/◌, ◌%◌, ◌^◌, ◌<◌, ◌≤◌, List, [], ◌∷◌, length, take, slice_index, All, if◌then◌else◌, nat_lt}
+-- Varints (Protocol Buffers, "Encoding", base 128 varints): seven bits of each byte, the low group
+-- first, with the top bit set on every byte but the last, and at most ten bytes.
+use Rattle.std.specs.Prelude.{◌≡◌, ◌≢◌, ℕ, zero, suc, ◌+◌, ◌-◌, ◌*◌, ◌/◌, ◌%◌, ◌^◌, ◌<◌, ◌≤◌, List, [], ◌∷◌, length, take, slice_index, All, if◌then◌else◌, nat_lt}
 use Rattle.ciff_wire.specs.declared.varint.Varint.{Varint}
 use Rattle.ciff_wire.specs.declared.varint.Varint.TheVariants.{Done, Short, Long}
 
@@ -47,11 +47,19 @@ IsRead bytes (Done value used) = Reads bytes value used
 IsRead bytes Short = EndsEarly bytes
 IsRead bytes Long = RunsOn bytes
 
+-- the canonical spelling of v: its sum is v, and every other spelling with this sum is longer
+pub record IsCanonicalVarint (v : ℕ) (bytes : List ℕ) : Type 0 where
+  pub spelling : IsSpelling bytes
+  pub sum : sum_of bytes ≡ v
+  pub shortest : (other : List ℕ) → IsSpelling other → sum_of other ≡ v → other ≢ bytes
+      → length bytes < length other
+
+-- ---- its computation, for v below 2^64 (a law says that it is the canonical spelling)
+
 -- the groups of v, where at most so many may follow the first
 unfoldable pub groups : ℕ → ℕ → List ℕ
 groups zero v = v ∷ []
 groups (suc room) v = if nat_lt v 128 then v ∷ [] else (128 + v % 128) ∷ groups room (v / 128)
 
--- the shortest spelling whose sum is v, for v below 2^64 (a law says so)
 unfoldable pub varint : ℕ → List ℕ
 varint v = groups 9 v

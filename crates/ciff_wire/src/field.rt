@@ -1,8 +1,7 @@
 //! Taking fields off the front of a message.
-ghost use Rattle.std.specs.Prelude.{◌≡◌, ◌+◌, ◌*◌, ◌≤◌, ◌<◌, length, take, IfOk, IfErr, IfSome, IfNone, []};
+ghost use Rattle.std.specs.Prelude.{◌≡◌, ◌+◌, ◌*◌, ◌/◌, ◌%◌, ◌≤◌, ◌<◌, length, take, IfOk, IfErr, IfSome, IfNone, []};
 ghost use Rattle.ciff_wire.specs.Varint.{Reads};
-ghost use Rattle.ciff_wire.specs.Field.{SpellsField, Holds, IsNumber, IsFault, wire_of, held_of, entry_of};
-ghost use Rattle.ciff_wire.specs.FieldSteps.{number_of_wire, IsValueFault, IsContentFault};
+ghost use Rattle.ciff_wire.specs.Field.{SpellsField, Holds, IsNumber, IsTagFault, IsContentFault, IsFault, wire_of, held_of, entry_of, number_of_wire};
 
 use crate::varint::{Varint, read_varint};
 
@@ -110,7 +109,7 @@ fn take_tag(bytes: &[u8]) -> Result<Tag, FieldFault>
 fn parts_of_tag(value: u64) -> Result<(u32, Wire), FieldFault>
     ensures number { IfOk result (λ parts. IsNumber parts.0) }
     ensures value { IfOk result (λ parts. value ≡ parts.0 * 8 + number_of_wire parts.1) }
-    ensures fault { IfErr result (IsValueFault value) }
+    ensures fault { IfErr result (IsTagFault (value / 8) (value % 8)) }
 {
     let number = value / 8;
     if number == 0 {

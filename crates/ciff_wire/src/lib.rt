@@ -4,7 +4,7 @@
 mod field;
 #[cfg(test)]
 mod field_tests;
-mod laws;
+pub mod laws;
 mod put;
 mod varint;
 #[cfg(test)]

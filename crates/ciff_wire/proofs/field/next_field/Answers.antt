@@ -2,8 +2,7 @@ use Rattle.std.proofs.Common.{ℕ, List, take, ◌+◌, ◌*◌, sym, subst}
 use Rattle.std.proofs.lemmas.List.{take_rest}
 use Rattle.std.proofs.lemmas.Result.{err_from_is_err_and}
 use Rattle.ciff_wire.specs.Varint.{Reads}
-use Rattle.ciff_wire.specs.Field.{Holds, held_of}
-use Rattle.ciff_wire.specs.FieldSteps.{number_of_wire, IsContentFault}
+use Rattle.ciff_wire.specs.Field.{Holds, held_of, number_of_wire, IsContentFault}
 use Rattle.ciff_wire.proofs.Taking.{wire_below, content_fault, spells_field}
 use Rattle.ciff_wire.proofs.field.next_field.Goals as goal
 
