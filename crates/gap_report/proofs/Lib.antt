@@ -1,0 +1,5 @@
+pub mod Gaps
+pub mod Logs
+pub mod Rows
+pub mod Sums
+pub mod Tallies

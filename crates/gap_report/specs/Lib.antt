@@ -1,0 +1,4 @@
+pub mod Codes
+pub mod Costs
+pub mod Laws
+pub mod Tally
