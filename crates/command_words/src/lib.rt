@@ -1,0 +1,12 @@
+//! The command that words spell: a table of commands, and the reading of a line by its row.
+#![tactic(auto)]
+
+mod command;
+mod number;
+mod part;
+mod table;
+
+pub use command::{Command, command_of};
+
+#[cfg(test)]
+mod tests;
