@@ -1,10 +1,9 @@
 //! The program: it hands the words after its name to the top call, over the real host.
 #![tactic(auto)]
 
-use rgb_app::run_plain;
-use rgb_host::{Host, RealHost};
+use rgb_app::{WordsFault, run_words};
+use rgb_host::RealHost;
 use std::env::Env;
-use std::io::ErrorKind;
 use std::process::ExitCode;
 use std::{env, io};
 
@@ -19,16 +18,6 @@ fn words(rt: &(impl Env + AllocGlobal)) -> io::Result<Vec<String>> {
 
 fn main(rt: HostRuntime) -> ExitCode {
     let alloc = rt.alloc();
-    let words = words(&rt);
-    let mut host = RealHost::new(rt);
-    let words = match words {
-        Ok(words) => words,
-        Err(error) if error.kind() == ErrorKind::OutOfMemory => {
-            let _ = host.warn(b"memory\n");
-            return ExitCode::from(6);
-        }
-        // Words that are no text are no command.
-        Err(_) => Vec::new(alloc),
-    };
-    ExitCode::from(run_plain(alloc, &words, &mut host))
+    let words = words(&rt).map_err(WordsFault::from);
+    ExitCode::from(run_words(alloc, words, &mut RealHost::new(rt)))
 }

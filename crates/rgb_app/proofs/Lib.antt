@@ -1,6 +1,7 @@
 pub mod Reading
 pub mod Delivery
-pub mod Warning
+pub mod Outcomes
+pub mod Endings
 pub mod Encoding
 pub mod Decoding
 pub mod CanonicalFields

@@ -3,7 +3,10 @@ use Rattle.std.proofs.Common.{◌≡◌, ℕ, zero, suc, ◌<◌, List, [], ◌+
 use Rattle.std.proofs.lemmas.List.{append_assoc, append-nil, length-append, drop_at, take-append-drop, nil_from_length}
 use Rattle.std.specs.FinMap.{get}
 use Rattle.rgb_host.specs.Files.{Files, IsMissing, Reads, ReadsTold}
-use Rattle.rgb_app.specs.Outcome.{WhereFile}
+
+-- where the files are told, the named one is there and P holds of its bytes
+abbrev pub Of : Option Files → List ℕ → (List ℕ → Type 0) → Type 0
+Of told name P = IfSome told (λ files. IsSomeAnd (get files name) P)
 
 -- the bytes are the front of the file
 pub record IsFront (bytes file : List ℕ) : Type 0 where
@@ -55,7 +58,7 @@ ends (Some file) bytes piece there room front read =
     nothing : drop (length bytes) file ≡ front.rest → Reads file (length bytes) piece 0 → length front.rest ≡ 0
     nothing left read = none_left (length (drop (length bytes) file)) (length front.rest) (ap length left) (λ h. read.some h room)
 
-pub front_ends : (told : Option Files) (name bytes piece : List ℕ) → ¬ IsMissing told name → 0 < length piece → FrontTold told name bytes → ReadsTold told name (length bytes) piece 0 → WhereFile told name (λ file. bytes ≡ file)
+pub front_ends : (told : Option Files) (name bytes piece : List ℕ) → ¬ IsMissing told name → 0 < length piece → FrontTold told name bytes → ReadsTold told name (length bytes) piece 0 → Of told name (λ file. bytes ≡ file)
 front_ends None name bytes piece there room front read = tt
 front_ends (Some files) name bytes piece there room front read = ends (get files name) bytes piece there room front read
 
@@ -64,7 +67,7 @@ too_long : (found : Option (List ℕ)) (bytes : List ℕ) (most : ℕ) → ¬ (f
 too_long None bytes most there long front = absurd (there refl)
 too_long (Some file) bytes most there long front = omega (arith, ap length front.whole, length-append bytes front.rest)
 
-pub front_too_long : (told : Option Files) (name bytes : List ℕ) (most : ℕ) → ¬ IsMissing told name → most < length bytes → FrontTold told name bytes → WhereFile told name (λ file. most < length file)
+pub front_too_long : (told : Option Files) (name bytes : List ℕ) (most : ℕ) → ¬ IsMissing told name → most < length bytes → FrontTold told name bytes → Of told name (λ file. most < length file)
 front_too_long None name bytes most there long front = tt
 front_too_long (Some files) name bytes most there long front = too_long (get files name) bytes most there long front
 

@@ -1,7 +1,8 @@
-pub mod Command
+pub mod Served
 pub mod Text
 pub mod Outcome
 pub mod Status
-pub mod View
-pub mod Code
+pub mod Ends
+pub mod Reading
 pub mod Decoding
+pub mod Laws

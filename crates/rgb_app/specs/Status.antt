@@ -1,50 +1,30 @@
--- What stands after a command.
-use Rattle.std.specs.Prelude.{◌≡◌, ◌⊎◌, ℕ, ◌<◌, ◌≤◌, List, ◌++◌, length, take, Option, Some, option_map}
-use Rattle.std.specs.FinMap.{insert}
-use Rattle.rgb_host.specs.Files.{Files, Rose}
-use Rattle.rgb_app.specs.Command.{Command, output_of}
-use Rattle.rgb_app.specs.Outcome.{done, ComesTo}
+-- The statuses: what each tells, its number, and the line that is warned with it.
+use Rattle.std.specs.Prelude.{ℕ, List, Option, Some, None, codes}
+use Rattle.rgb_app.specs.Outcome.{Outcome, done, refused, missing}
+use Rattle.rgb_app.specs.Text.{line_of}
+use Rattle.rgb_app.specs.declared.status.Status.{Status}
+use Rattle.rgb_app.specs.declared.status.Status.TheVariants.{Done, Usage, Unread, ReadFault, WriteFault, Memory}
 
--- the six answers
-abbrev pub IsStatus : ℕ → Type 0
-IsStatus status = (status ≡ 0) ⊎ ((status ≡ 2) ⊎ ((status ≡ 3) ⊎ ((status ≡ 4) ⊎ ((status ≡ 5) ⊎ (status ≡ 6)))))
+-- the number that the program ends with
+abbrev pub code_of : Status → ℕ
+code_of Done = 0
+code_of Usage = 2
+code_of Unread = 3
+code_of ReadFault = 4
+code_of WriteFault = 5
+code_of Memory = 6
 
--- the text was added to what is printed or warned, where it is told
-abbrev pub Adds : Option (List ℕ) → Option (List ℕ) → List ℕ → Type 0
-Adds before after text = after ≡ option_map (λ told. told ++ text) before
+-- the line on standard error
+abbrev pub warning_of : Status → Option (List ℕ)
+warning_of Done = None
+warning_of Usage = Some (line_of (codes "usage"))
+warning_of Unread = Some (line_of (codes "unread form"))
+warning_of ReadFault = Some (line_of (codes "read fault"))
+warning_of WriteFault = Some (line_of (codes "write fault"))
+warning_of Memory = Some (line_of (codes "memory"))
 
--- the outcome stands whole: its bytes in the file that is written, its text printed
-pub record StandsWhole (command : Command) (files : Files) (files_after : Option Files) (printed printed_after : Option (List ℕ)) : Type 0 where
-  pub out : List ℕ
-  pub text : List ℕ
-  pub outcome : ComesTo command files (done out text)
-  pub written : files_after ≡ Some (insert files (output_of command) out)
-  pub shown : Adds printed printed_after text
-
--- so many bytes of the outcome were written and printed before a call failed; none where the file wasn't created
-pub record StandsPartly (command : Command) (files : Files) (files_after : Option Files) (printed printed_after : Option (List ℕ)) : Type 0 where
-  pub out : List ℕ
-  pub text : List ℕ
-  pub outcome : ComesTo command files (done out text)
-  pub bytes : ℕ
-  pub shown : ℕ
-  pub within : bytes ≤ length out
-  pub written : (files_after ≡ Some files) ⊎ (files_after ≡ Some (insert files (output_of command) (take bytes out)))
-  pub prints : Adds printed printed_after (take shown text)
-  pub order : 0 < shown → files_after ≡ Some (insert files (output_of command) out)
-
--- a front of the line was warned, and all of it unless a warning failed
-pub record Warns (before after : Option (List ℕ)) (faults faults_after : ℕ) (line : List ℕ) : Type 0 where
-  pub bytes : ℕ
-  pub within : bytes ≤ length line
-  pub warned : Adds before after (take bytes line)
-  pub whole : (bytes ≡ length line) ⊎ Rose faults faults_after
-
--- so much of the bytes and the text was delivered before a call failed
-pub record DeliversPartly (output out text : List ℕ) (files files_after : Option Files) (printed printed_after : Option (List ℕ)) : Type 0 where
-  pub bytes : ℕ
-  pub shown : ℕ
-  pub within : bytes ≤ length out
-  pub written : (files_after ≡ files) ⊎ (files_after ≡ option_map (λ told. insert told output (take bytes out)) files)
-  pub prints : Adds printed printed_after (take shown text)
-  pub order : 0 < shown → files_after ≡ option_map (λ told. insert told output out) files
+-- the status that tells an outcome
+abbrev pub status_of : Outcome → Status
+status_of (done work) = Done
+status_of refused = Unread
+status_of missing = ReadFault

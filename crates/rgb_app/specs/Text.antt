@@ -1,5 +1,5 @@
 -- What is printed and warned, byte by byte. Each line ends with a line feed.
-use Rattle.std.specs.Prelude.{ℕ, List, [], ◌∷◌, ◌++◌, length, if◌then◌else◌, ◌==◌, codes, decimal}
+use Rattle.std.specs.Prelude.{ℕ, List, [], ◌∷◌, ◌++◌, length, codes, decimal}
 use Rattle.rgb_base.specs.Parts.{IndexParts, posting_count}
 
 abbrev pub line_of : List ℕ → List ℕ
@@ -7,17 +7,10 @@ line_of text = text ++ 10 ∷ []
 
 -- how many documents, lists and postings an index has
 abbrev pub index_words : ℕ → ℕ → ℕ → List ℕ
-index_words documents lists postings = codes "documents " ++ decimal documents ++ codes " lists " ++ decimal lists ++ codes " postings " ++ decimal postings
+index_words documents lists postings =
+    codes "documents " ++ decimal documents ++ codes " lists " ++ decimal lists
+    ++ codes " postings " ++ decimal postings
 
 abbrev pub index_line : IndexParts → List ℕ
-index_line index = line_of (index_words (length index.documents) (length index.lists) (posting_count index.lists))
-
--- the line that is warned with a status
-abbrev pub warning_of : ℕ → List ℕ
-warning_of status =
-    if status == 2 then line_of (codes "usage")
-    else if status == 3 then line_of (codes "unread form")
-    else if status == 4 then line_of (codes "read fault")
-    else if status == 5 then line_of (codes "write fault")
-    else if status == 6 then line_of (codes "memory")
-    else []
+index_line index =
+    line_of (index_words (length index.documents) (length index.lists) (posting_count index.lists))

@@ -1,13 +1,13 @@
 //! The commands of the program, over a host.
 #![tactic(auto)]
 
-mod command;
 mod decode;
 mod encode;
+pub mod laws;
 mod line;
 mod read;
 mod run;
 mod small;
 mod status;
 
-pub use run::run_plain;
+pub use run::{WordsFault, run_plain, run_words};

@@ -1,9 +1,10 @@
-//! Reading a whole file of limited length.
-ghost use Rattle.std.specs.Prelude.{◌≡◌, ◌⊎◌, ◌<◌, ◌≤◌, ◌^◌, length, vec_len, IfOk, IfSome, IfNone};
-ghost use Rattle.rgb_host.specs.Files.{IsMissing, Rose};
-ghost use Rattle.rgb_app.specs.Outcome.{WhereFile};
-ghost use Rattle.rgb_app.specs.declared.read.ReadFault.TheVariants.{Fault, OutOfMemory as no_memory};
+//! Reading a file as an index.
+ghost use Rattle.std.specs.Prelude.{◌≡◌, ◌<◌, ◌≤◌, ◌^◌, length, vec_len, IfOk, IfErr, OnOk};
+ghost use Rattle.rgb_app.specs.Outcome.{Accepts};
+ghost use Rattle.rgb_app.specs.Reading.{OfFile, Explains};
 
+use crate::small::accepted;
+use rgb_base::{Index, OutOfMemory};
 use rgb_host::{Failed, Host};
 use std::alloc::{AllocError, Global};
 
@@ -13,27 +14,46 @@ const MOST: usize = 0x100_0000;
 /// How many bytes one read asks for.
 const PIECE: usize = 0x1_0000;
 
-/// Why a file couldn't be read.
+/// Why a file isn't read as an index.
 #[derive(Clone, Copy, Debug, PartialEq, Eq)]
-pub enum ReadFault {
+pub enum ReadError {
     /// The host failed, or the file isn't there.
     Fault,
+    /// The file isn't accepted.
+    Refused,
     OutOfMemory,
 }
 
-impl From<Failed> for ReadFault {
-    ghost from_gives = { λ _ e. e ≡ Fault };
+impl From<Failed> for ReadError {
+    ghost use Rattle.std.specs.Prelude.{◌≡◌};
+    ghost use Rattle.rgb_app.specs.declared.read.ReadError.TheVariants.{Fault};
+
+    ghost from_gives = { λ _ error. error ≡ Fault };
 
     fn from(_: Failed) -> Self {
-        ReadFault::Fault
+        ReadError::Fault
     }
 }
 
-impl From<AllocError> for ReadFault {
-    ghost from_gives = { λ _ e. e ≡ no_memory };
+impl From<AllocError> for ReadError {
+    ghost use Rattle.std.specs.Prelude.{◌≡◌};
+    ghost use Rattle.rgb_app.specs.declared.read.ReadError.TheVariants.{OutOfMemory as no_memory};
+
+    ghost from_gives = { λ _ error. error ≡ no_memory };
 
     fn from(_: AllocError) -> Self {
-        ReadFault::OutOfMemory
+        ReadError::OutOfMemory
+    }
+}
+
+impl From<OutOfMemory> for ReadError {
+    ghost use Rattle.std.specs.Prelude.{◌≡◌};
+    ghost use Rattle.rgb_app.specs.declared.read.ReadError.TheVariants.{OutOfMemory as no_memory};
+
+    ghost from_gives = { λ _ error. error ≡ no_memory };
+
+    fn from(_: OutOfMemory) -> Self {
+        ReadError::OutOfMemory
     }
 }
 
@@ -44,22 +64,29 @@ fn room(alloc: Global, len: usize) -> Result<Vec<u8>, AllocError>
     vec![in alloc; 0u8; len]
 }
 
-/// All bytes of the named file, or nothing where it has more than 2^24.
-pub fn read_whole<H: Host>(
-    alloc: Global,
-    host: &mut H,
-    name: &str,
-) -> Result<Option<Vec<u8>>, ReadFault>
-    ensures whole { IfOk result (λ found. IfSome found (λ bytes. WhereFile (H.files host.old) name.now (λ file. bytes.items ≡ file))) }
-    ensures most { IfOk result (λ found. IfSome found (λ bytes. vec_len bytes ≤ 2 ^ 24)) }
-    ensures longer { IfOk result (λ found. IfNone found (WhereFile (H.files host.old) name.now (λ file. 2 ^ 24 < length file))) }
-    ensures fault { result ≡ Err ReadFault.Fault → IsMissing (H.files host.old) name.now ⊎ Rose (H.read_faults host.old) (H.read_faults host.new) }
-    ensures counts { H.read_faults host.old ≤ H.read_faults host.new }
-    ensures files { H.files host.new ≡ H.files host.old }
-    ensures printed { H.printed host.new ≡ H.printed host.old }
-    ensures warned { H.warned host.new ≡ H.warned host.old }
-    ensures write_faults { H.write_faults host.new ≡ H.write_faults host.old }
-    ensures warn_faults { H.warn_faults host.new ≡ H.warn_faults host.old }
+/// The index of the named file.
+pub fn read_index<H: Host>(alloc: Global, host: &mut H, name: &str) -> Result<Index, ReadError>
+    ensures index { IfOk result (λ index.
+        OfFile (H.seen host.old) name.now (λ file. Accepts file index)) }
+    ensures same { OnOk result (H.seen host.new ≡ H.seen host.old) }
+    ensures error { IfErr result (λ error.
+        Explains error name.now (H.seen host.old) (H.seen host.new)) }
+{
+    let bytes = read_whole(alloc, host, name)?;
+    match accepted(alloc, &bytes)? {
+        Some(index) => Ok(index),
+        None => Err(ReadError::Refused),
+    }
+}
+
+// All bytes of the named file, which is refused where it has more than 2^24.
+fn read_whole<H: Host>(alloc: Global, host: &mut H, name: &str) -> Result<Vec<u8>, ReadError>
+    ensures whole { IfOk result (λ bytes.
+        OfFile (H.seen host.old) name.now (λ file. bytes.items ≡ file)) }
+    ensures most { IfOk result (λ bytes. vec_len bytes ≤ 2 ^ 24) }
+    ensures same { OnOk result (H.seen host.new ≡ H.seen host.old) }
+    ensures error { IfErr result (λ error.
+        Explains error name.now (H.seen host.old) (H.seen host.new)) }
 {
     let mut piece = room(alloc, PIECE)?;
     read_pieces(alloc, host, name, &mut piece)
@@ -71,28 +98,24 @@ fn read_pieces<H: Host>(
     host: &mut H,
     name: &str,
     piece: &mut [u8],
-) -> Result<Option<Vec<u8>>, ReadFault>
+) -> Result<Vec<u8>, ReadError>
     requires { 0 < length piece.old }
-    ensures whole { IfOk result (λ found. IfSome found (λ bytes. WhereFile (H.files host.old) name.now (λ file. bytes.items ≡ file))) }
-    ensures most { IfOk result (λ found. IfSome found (λ bytes. vec_len bytes ≤ 2 ^ 24)) }
-    ensures longer { IfOk result (λ found. IfNone found (WhereFile (H.files host.old) name.now (λ file. 2 ^ 24 < length file))) }
-    ensures fault { result ≡ Err ReadFault.Fault → IsMissing (H.files host.old) name.now ⊎ Rose (H.read_faults host.old) (H.read_faults host.new) }
-    ensures counts { H.read_faults host.old ≤ H.read_faults host.new }
-    ensures files { H.files host.new ≡ H.files host.old }
-    ensures printed { H.printed host.new ≡ H.printed host.old }
-    ensures warned { H.warned host.new ≡ H.warned host.old }
-    ensures write_faults { H.write_faults host.new ≡ H.write_faults host.old }
-    ensures warn_faults { H.warn_faults host.new ≡ H.warn_faults host.old }
+    ensures whole { IfOk result (λ bytes.
+        OfFile (H.seen host.old) name.now (λ file. bytes.items ≡ file)) }
+    ensures most { IfOk result (λ bytes. vec_len bytes ≤ 2 ^ 24) }
+    ensures same { OnOk result (H.seen host.new ≡ H.seen host.old) }
+    ensures error { IfErr result (λ error.
+        Explains error name.now (H.seen host.old) (H.seen host.new)) }
 {
     let mut bytes = Vec::new(alloc);
     'pieces: loop {
         let taken = host.read_at(name, bytes.len() as u64, piece)?;
         if taken == 0 {
-            return Ok(Some(bytes));
+            return Ok(bytes);
         }
         bytes.extend_from_slice(&piece[..taken])?;
         if bytes.len() > MOST {
-            return Ok(None);
+            return Err(ReadError::Refused);
         }
     }
 }

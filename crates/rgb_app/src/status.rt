@@ -1,12 +1,13 @@
 //! What a command ends with.
 ghost use Rattle.std.specs.Prelude.{◌≡◌};
-ghost use Rattle.rgb_app.specs.Text.{warning_of};
-ghost use Rattle.rgb_app.specs.Code.{code_of};
+ghost use Rattle.std.specs.Option.{option_copied};
+ghost use Rattle.rgb_app.specs.Status.{code_of, warning_of};
 
-use crate::read::ReadFault;
+use crate::read::ReadError;
 use rgb_base::OutOfMemory;
+use rgb_host::Failed;
 
-/// How a command ended, with the line that is warned for it.
+/// How a command ended.
 #[derive(Clone, Copy, Debug, PartialEq, Eq)]
 pub enum Status {
     Done,
@@ -17,16 +18,17 @@ pub enum Status {
     Memory,
 }
 
-impl From<ReadFault> for Status {
+impl From<ReadError> for Status {
     ghost use Rattle.std.specs.Prelude.{◌≡◌};
-    ghost use Rattle.rgb_app.specs.Code.{status_of};
+    ghost use Rattle.rgb_app.specs.Reading.{status_of_read};
 
-    ghost from_gives = { λ fault status. status ≡ status_of fault };
+    ghost from_gives = { λ error status. status ≡ status_of_read error };
 
-    fn from(fault: ReadFault) -> Self {
-        match fault {
-            ReadFault::Fault => Status::ReadFault,
-            ReadFault::OutOfMemory => Status::Memory,
+    fn from(error: ReadError) -> Self {
+        match error {
+            ReadError::Fault => Status::ReadFault,
+            ReadError::Refused => Status::Unread,
+            ReadError::OutOfMemory => Status::Memory,
         }
     }
 }
@@ -39,6 +41,17 @@ impl From<OutOfMemory> for Status {
 
     fn from(_: OutOfMemory) -> Self {
         Status::Memory
+    }
+}
+
+impl From<Failed> for Status {
+    ghost use Rattle.std.specs.Prelude.{◌≡◌};
+    ghost use Rattle.rgb_app.specs.declared.status.Status.TheVariants.{WriteFault};
+
+    ghost from_gives = { λ _ status. status ≡ WriteFault };
+
+    fn from(_: Failed) -> Self {
+        Status::WriteFault
     }
 }
 
@@ -58,16 +71,16 @@ impl Status {
     }
 
     /// The line on standard error, with its line feed.
-    pub fn warning(self) -> &'static str
-        ensures line { result.now ≡ warning_of (code_of self) }
+    pub fn warning(self) -> Option<&'static str>
+        ensures line { option_copied result ≡ warning_of self }
     {
         match self {
-            Status::Done => "",
-            Status::Usage => "usage\n",
-            Status::Unread => "unread form\n",
-            Status::ReadFault => "read fault\n",
-            Status::WriteFault => "write fault\n",
-            Status::Memory => "memory\n",
+            Status::Done => None,
+            Status::Usage => Some("usage\n"),
+            Status::Unread => Some("unread form\n"),
+            Status::ReadFault => Some("read fault\n"),
+            Status::WriteFault => Some("write fault\n"),
+            Status::Memory => Some("memory\n"),
         }
     }
 }

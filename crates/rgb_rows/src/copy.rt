@@ -1,15 +1,8 @@
 //! Rows of `copy`. The expected bytes were worked out by hand from the encoding's rules, and the table of
 //! single bytes by a program of another language.
-use crate::runs::{ALL_WELL, Setting, host_with, status_of};
-use rgb_host::MemoryHost;
+use crate::runs::{ALL_WELL, ONE, Setting, copy, host_with, status_of};
 use std::alloc::Global;
 use std::test::Fail;
-
-/// One list of one posting, and one document: 25 bytes.
-const ONE: [u8; 25] = [
-    0x06, 0x08, 0x01, 0x10, 0x01, 0x18, 0x01, 0x0b, 0x0a, 0x01, 0x61, 0x10, 0x01, 0x18, 0x02, 0x22,
-    0x02, 0x10, 0x02, 0x05, 0x12, 0x01, 0x78, 0x18, 0x02,
-];
 
 /// A `df` of 5 over one posting, and a `tf` of -1.
 const NEGATIVE: [u8; 27] = [
@@ -22,12 +15,6 @@ const REVERSED: [u8; 31] = [
     0x08, 0x18, 0x01, 0x10, 0x01, 0x08, 0x01, 0x78, 0x05, 0x0d, 0x22, 0x04, 0x10, 0x02, 0x08, 0x00,
     0x18, 0x02, 0x10, 0x01, 0x0a, 0x01, 0x61, 0x07, 0x18, 0x02, 0x12, 0x01, 0x78, 0x08, 0x00,
 ];
-
-fn copy(alloc: Global, bytes: &[u8], setting: Setting<'_>) -> Result<(u8, MemoryHost), Fail> {
-    let mut host = host_with(alloc, "in", bytes, setting)?;
-    let status = status_of(alloc, &["copy", "in", "out"], &mut host)?;
-    Ok((status, host))
-}
 
 #[test]
 fn canonical_files_come_out_unchanged(rt: HostRuntime) -> Result<(), Fail> {
@@ -147,7 +134,7 @@ fn each_cut_and_each_byte_more(rt: HostRuntime) -> Result<(), Fail> {
 
 #[test]
 fn words_that_are_no_command(rt: HostRuntime) -> Result<(), Fail> {
-    let rows: [&[&str]; 8] = [
+    let rows: [&[&str]; 9] = [
         &[],
         &["Copy", "in", "out"],
         &["copy", "in"],
@@ -155,7 +142,9 @@ fn words_that_are_no_command(rt: HostRuntime) -> Result<(), Fail> {
         &["copy", "--in", "out"],
         &["copy", "in", "--"],
         &["copy", "in", "out", "more"],
-        &["report", "in", "out"],
+        &["copy", "in", "--workers", "1", "out"],
+        // Told apart from other words, and not done yet.
+        &["report", "in"],
     ];
     for words in rows {
         let mut host = host_with(rt.alloc(), "in", &ONE, ALL_WELL)?;

@@ -4,4 +4,8 @@
 #[cfg(test)]
 mod copy;
 #[cfg(test)]
+mod fields;
+#[cfg(test)]
 mod runs;
+#[cfg(test)]
+mod warnings;

@@ -20,7 +20,13 @@ pub const ALL_WELL: Setting<'static> = Setting {
     most: 65536,
 };
 
-fn words_of(alloc: Global, words: &[&str]) -> Result<Vec<String>, Fail> {
+/// One list of one posting, and one document: 25 bytes.
+pub const ONE: [u8; 25] = [
+    0x06, 0x08, 0x01, 0x10, 0x01, 0x18, 0x01, 0x0b, 0x0a, 0x01, 0x61, 0x10, 0x01, 0x18, 0x02, 0x22,
+    0x02, 0x10, 0x02, 0x05, 0x12, 0x01, 0x78, 0x18, 0x02,
+];
+
+pub fn words_of(alloc: Global, words: &[&str]) -> Result<Vec<String>, Fail> {
     let mut all = Vec::new(alloc);
     for word in words {
         all.push(String::from_str(alloc, *word)?)?;
@@ -52,4 +58,11 @@ pub fn host_with(
 pub fn status_of(alloc: Global, words: &[&str], host: &mut MemoryHost) -> Result<u8, Fail> {
     let words = words_of(alloc, words)?;
     Ok(run_plain(alloc, &words, host))
+}
+
+/// The status of `copy in out` over a host whose file `in` has these bytes, and that host.
+pub fn copy(alloc: Global, bytes: &[u8], setting: Setting<'_>) -> Result<(u8, MemoryHost), Fail> {
+    let mut host = host_with(alloc, "in", bytes, setting)?;
+    let status = status_of(alloc, &["copy", "in", "out"], &mut host)?;
+    Ok((status, host))
 }

@@ -26,3 +26,9 @@ fields-preserved c = λ entries is.
           (ap (option_map held_of) w.found-is ∙ stays c.args.number found (entry_of field) w.if-field-number.false)
           within spells (c.fields.invariant entries is)
     ]
+
+-- what has a fault at its front is no message
+pub returns-in_default : goal.returns-in_default
+returns-in_default c = λ entries is.
+    let left = c.fields.invariant entries is in
+    absurd (c.message_is_one.ensures.fault c.fields.rest.now c.in_default.field-0 left.left c.in_default.ensures.fault left.message)

@@ -1,17 +1,17 @@
-use Rattle.std.proofs.Common.{◌≡◌, sym, ap, subst, ◌∙◌}
-use Rattle.rgb_app.specs.Text.{warning_of}
-use Rattle.rgb_app.specs.Status.{Warns}
+use Rattle.command_words.specs.Command.{texts_of}
+use Rattle.rgb_app.specs.Ends.{Ends}
+use Rattle.rgb_app.proofs.Endings.{exact_comes}
 use Rattle.rgb_app.proofs.run.run_plain.Goals as goal
-use Rattle.rgb_app.proofs.run.run_plain.Goals.{in-None, in-Some-Copy}
 
-pub returns-clause-warned : goal.returns-clause-warned
-returns-clause-warned g c =
-    let warned = g.H.Host.warned in
-    let faults = g.H.Host.warn_faults in
-    let host = c.match-command_of.host in
-    let line = ap warning_of (sym c.code.ensures.code) in
-    let told : warned host ≡ warned c.args.host.now = elim c.match-command_of.branch [ in-None w ↦ ap warned w.host-is | in-Some-Copy w ↦ ap warned w.host-is ∙ w.copy-status.ensures.warned ] in
-    let counted : faults host ≡ faults c.args.host.now = elim c.match-command_of.branch [ in-None w ↦ ap faults w.host-is | in-Some-Copy w ↦ ap faults w.host-is ∙ w.copy-status.ensures.warn_faults ] in
-    subst (λ t. Warns t (warned c.warn.new.host) (faults c.args.host.now) (faults c.warn.new.host) (warning_of c.code.result)) told
-    (subst (λ n. Warns (warned host) (warned c.warn.new.host) n (faults c.warn.new.host) (warning_of c.code.result)) counted
-    (subst (λ l. Warns (warned host) (warned c.warn.new.host) (faults host) (faults c.warn.new.host) l) line c.warn.ensures.warned))
+pub returns-clause-exact : goal.returns-clause-exact
+returns-clause-exact g c =
+    let seen = g.H.Host.seen in
+    let words = texts_of c.args.words.now in
+    let ends : Ends words (seen c.args.host.now) (seen c.end.new.host) c.end.result = record {
+      status = c.work-status.result;
+      code = c.end.ensures.code;
+      between = seen c.work-status.new.host;
+      runs = c.work-status.ensures.runs;
+      warned = c.end.ensures.warned;
+    } in
+    exact_comes c.exactly_one_outcome.ensures.one words (seen c.args.host.now) (seen c.end.new.host) c.end.result c.work-status.ensures.one ends

@@ -1,0 +1,150 @@
+-- What the end of a run says of the status that comes.
+use Rattle.std.proofs.Common.{◌≡◌, ◌⊎◌, ◌↔◌, ℕ, List, Option, Some, None, IsSomeAnd, IfSome, refl, sym, ap, subst, ◌∙◌, inl, inr}
+use Rattle.rgb_host.specs.Files.{Files, Rose}
+use Rattle.rgb_host.specs.Seen.{Seen}
+use Rattle.command_words.specs.Line.{Word}
+use Rattle.command_words.specs.Command.{Command, copy, report, IsCommand, Answers}
+use Rattle.rgb_app.specs.Served.{Spells, SpellsNone, SpellsOne}
+use Rattle.rgb_app.specs.Outcome.{Outcome, Written, Work, done, refused, missing, Accepts, writing, ComesTo}
+use Rattle.rgb_app.specs.Status.{code_of, warning_of, status_of}
+use Rattle.rgb_app.specs.Ends.{delivered, DoesComeTo, with_written, Says, Runs, Warned, Ends, IsDisturbed, IsExact, IsCutOff, not_created, not_written, not_printed}
+use Rattle.rgb_app.specs.Reading.{OfFile, Explains, status_of_read}
+use Rattle.rgb_app.specs.Laws.{OneOutcome}
+use Rattle.rgb_app.proofs.Outcomes.{lacks_stops, refused_stops, copy_is_done}
+use Rattle.rgb_base.specs.Parts.{IndexParts}
+use Rattle.ciff_format.specs.Canonical.{bytes_of}
+use Rattle.rgb_app.specs.Text.{index_line}
+use Rattle.rgb_app.specs.declared.read.ReadError.{ReadError}
+use Rattle.rgb_app.specs.declared.read.ReadError.TheVariants.{Fault, Refused, OutOfMemory}
+use Rattle.rgb_app.specs.declared.status.Status.{Status}
+use Rattle.rgb_app.specs.declared.status.Status.TheVariants.{Done, Usage, Unread, ReadFault, WriteFault, Memory}
+
+-- ---- usage
+
+usage_code : (status : Status) (command : Command) (before after : Seen) → Says status command before after → code_of status ≡ 2 → ⊥
+usage_code Done command before after says is = absurd (cc)
+usage_code Usage command before after says is = says
+usage_code Unread command before after says is = absurd (cc)
+usage_code ReadFault command before after says is = absurd (cc)
+usage_code WriteFault command before after says is = absurd (cc)
+usage_code Memory command before after says is = absurd (cc)
+
+usage_means : (status : Status) (words : List Word) (before after : Seen) → Runs status words before after → code_of status ≡ 2 → SpellsNone words
+usage_means status words before after (inl p) is = p.0
+usage_means status words before after (inr p) is = absurd (usage_code status p.0 before after p.2 is)
+
+refused_words : (status : Status) (words : List Word) (before after : Seen) → Runs status words before after → SpellsNone words → status ≡ Usage
+refused_words status words before after (inl p) none = p.1
+refused_words status words before after (inr p) none = absurd (none p.0 p.1)
+
+pub usage_comes : (words : List Word) (before after : Seen) (number : ℕ) → Ends words before after number → (number ≡ 2) ↔ SpellsNone words
+usage_comes words before after number e = (
+  (λ is. usage_means e.status words before e.between e.runs (sym e.code ∙ is)),
+  (λ none. e.code ∙ ap code_of (refused_words e.status words before e.between e.runs none)),
+)
+
+-- ---- the line that is warned changes no count of the work
+
+keeps_reads : (line : Option (List ℕ)) (before after : Seen) → Warned line before after → after.read_faults ≡ before.read_faults
+keeps_reads None before after w = ap (λ host. host.read_faults) w
+keeps_reads (Some line) before after (inl w) = ap (λ host. host.read_faults) w
+keeps_reads (Some line) before after (inr w) = ap (λ host. host.read_faults) w.failed.same
+
+keeps_writes : (line : Option (List ℕ)) (before after : Seen) → Warned line before after → after.write_faults ≡ before.write_faults
+keeps_writes None before after w = ap (λ host. host.write_faults) w
+keeps_writes (Some line) before after (inl w) = ap (λ host. host.write_faults) w
+keeps_writes (Some line) before after (inr w) = ap (λ host. host.write_faults) w.failed.same
+
+disturbed_after : (outcome : Outcome) (before between after : Seen) → after.read_faults ≡ between.read_faults → after.write_faults ≡ between.write_faults
+    → IsDisturbed outcome before between → IsDisturbed outcome before after
+disturbed_after (done work) before between after reads writes (inl d) = inl (subst (λ n. Rose before.read_faults n) (sym reads) d)
+disturbed_after (done work) before between after reads writes (inr d) = inr (subst (λ n. Rose before.write_faults n) (sym writes) d)
+disturbed_after refused before between after reads writes d = subst (λ n. Rose before.read_faults n) (sym reads) d
+disturbed_after missing before between after reads writes d = subst (λ n. Rose before.read_faults n) (sym reads) d
+
+read_disturbs : (outcome : Outcome) (before after : Seen) → Rose before.read_faults after.read_faults → IsDisturbed outcome before after
+read_disturbs (done work) before after rose = inl rose
+read_disturbs refused before after rose = rose
+read_disturbs missing before after rose = rose
+
+written_counts : (file : Option Written) (host : Seen) → (with_written file host).write_faults ≡ host.write_faults
+written_counts None host = refl
+written_counts (Some file) host = refl
+
+cut_off_rose : (work : Work) (before after : Seen) → IsCutOff work before after → Rose before.write_faults after.write_faults
+cut_off_rose work before after (not_created file is failed) = failed.rose
+cut_off_rose work before after (not_written file is n within failed) = failed.rose
+cut_off_rose work before after (not_printed cut) = subst (λ n. Rose n after.write_faults) (written_counts work.file before) cut.failed.rose
+
+-- ---- the outcome's status
+
+-- over the files that are told there is one outcome
+told_one : OneOutcome → (command : Command) (told : Option Files) (one other : Outcome) → IfSome told (λ files. ComesTo command files one) → IsSomeAnd told (λ files. ComesTo command files other) → one ≡ other
+told_one law command None one other p q = absurd q
+told_one law command (Some files) one other p q = law command files one other p q
+
+told_both : OneOutcome → (command : Command) (told : Option Files) (one other : Outcome) → IsSomeAnd told (λ files. ComesTo command files one) → IsSomeAnd told (λ files. ComesTo command files other) → one ≡ other
+told_both law command None one other p q = absurd q
+told_both law command (Some files) one other p q = law command files one other p q
+
+status_tells : OneOutcome → (status : Status) (command : Command) (outcome : Outcome) (before after : Seen) → Says status command before after → DoesComeTo command before outcome → ¬ IsDisturbed outcome before after
+    → (status ≡ status_of outcome) ⊎ (status ≡ Memory)
+status_tells law Done command outcome before after says told calm = inl (ap status_of (told_one law command before.files (done says.0) outcome says.1 told))
+status_tells law Usage command outcome before after says told calm = absurd says
+status_tells law Unread command outcome before after says told calm = inl (ap status_of (told_one law command before.files refused outcome says.0 told))
+status_tells law ReadFault command outcome before after (inl failed) told calm = absurd (calm (read_disturbs outcome before after failed.rose))
+status_tells law ReadFault command outcome before after (inr says) told calm = inl (ap status_of (told_both law command before.files missing outcome says.0 told))
+status_tells law WriteFault command outcome before after says told calm =
+    let same : done says.0 ≡ outcome = told_one law command before.files (done says.0) outcome says.1 told in
+    absurd (subst (λ o. ¬ IsDisturbed o before after) (sym same) calm (inr (cut_off_rose says.0 before after says.2)))
+status_tells law Memory command outcome before after says told calm = inr refl
+
+is_command : (words : List Word) (command : Command) → Spells words command → IsCommand words command
+is_command words (copy input output) s = s
+is_command words (report input workers) s = absurd s
+
+-- words spell one command at most, as their reading says
+pub answers_one : (words : List Word) (found : Option Command) → Answers words found → SpellsOne words
+answers_one words None none = λ a b p q. absurd (none a (is_command words a p))
+answers_one words (Some command) only = λ a b p q. only.only a (is_command words a p) ∙ sym (only.only b (is_command words b q))
+
+-- no command, or one that isn't done
+pub no_command : (words : List Word) → Answers words None → SpellsNone words
+no_command words none command spells = none command (is_command words command spells)
+
+pub only_report : (words : List Word) (input : Word) (workers : ℕ) → Answers words (Some (report input workers)) → SpellsNone words
+only_report words input workers only (copy i o) spells = let e : copy i o ≡ report input workers = only.only (copy i o) spells in absurd (cc)
+only_report words input workers only (report i w) spells = spells
+
+code_tells : (number : ℕ) (status other : Status) → number ≡ code_of status → (status ≡ other) ⊎ (status ≡ Memory) → (number ≡ code_of other) ⊎ (number ≡ code_of Memory)
+code_tells number status other code (inl is) = inl (code ∙ ap code_of is)
+code_tells number status other code (inr is) = inr (code ∙ ap code_of is)
+
+runs_tell : OneOutcome → (status : Status) (words : List Word) (before after : Seen) (outcome : Outcome) (command : Command) → SpellsOne words → Runs status words before after → Spells words command
+    → DoesComeTo command before outcome → ¬ IsDisturbed outcome before after → (status ≡ status_of outcome) ⊎ (status ≡ Memory)
+runs_tell law status words before after outcome command only (inl p) spells told calm = absurd (p.0 command spells)
+runs_tell law status words before after outcome command only (inr p) spells told calm =
+    status_tells law status command outcome before after (subst (λ k. Says status k before after) (only p.0 command p.1 spells) p.2) told calm
+
+pub exact_comes : OneOutcome → (words : List Word) (before after : Seen) (number : ℕ) → SpellsOne words → Ends words before after number → IsExact words before after number
+exact_comes law words before after number only e = λ command spells outcome told calm.
+    code_tells number e.status (status_of outcome) e.code (runs_tell law e.status words before e.between outcome command only e.runs spells told
+    (λ d. calm (disturbed_after outcome before e.between after (keeps_reads (warning_of e.status) e.between after e.warned) (keeps_writes (warning_of e.status) e.between after e.warned) d)))
+
+-- ---- the steps of a copy
+
+-- a file that isn't read
+pub explained : (error : ReadError) (input output : Word) (before after : Seen) → Explains error input before after → Says (status_of_read error) (copy input output) before after
+explained Fault input output before after (inl failed) = inl failed
+explained Fault input output before after (inr lacks) = inr (lacks_stops before.files input output lacks.0, lacks.1)
+explained Refused input output before after (bad, same) = (refused_stops before.files input output bad, same)
+explained OutOfMemory input output before after same = same
+
+-- a file that is read, written again and told
+pub copied : (input output : Word) (index : IndexParts) (bytes text : List ℕ) (before read after : Seen) → OfFile before input (λ file. Accepts file index) → read ≡ before
+    → bytes ≡ bytes_of index → text ≡ index_line index → after ≡ delivered (writing output bytes text) read → Says Done (copy input output) before after
+copied input output index bytes text before read after holds same bytes-are text-is stands = (
+  writing output (bytes_of index) (index_line index),
+  copy_is_done before.files input output index holds,
+  stands ∙ ap (delivered (writing output bytes text)) same ∙ ap (λ b. delivered (writing output b text) before) bytes-are ∙ ap (λ t. delivered (writing output (bytes_of index) t) before) text-is,
+)
