@@ -1,6 +1,6 @@
 #!/usr/bin/env bash
 # Builds and runs a program over the crates: its name, the crates that it stands on, and its text on standard input.
-# It works on a copy of the crates and leaves the repository as it is.
+# It works on a copy of the crates and leaves the repository as it is. Where KEEP is set, the program is copied there.
 set -eu
 name=$1
 shift
@@ -14,3 +14,4 @@ echo "$name: $*" >>"$work/crates.txt"
 cat >"$work/crates/$name/src/main.rt"
 cd "$work/crates/$name"
 rt run
+if [ -n "${KEEP:-}" ]; then cp "out/$name" "$KEEP"; fi

@@ -1,5 +1,13 @@
+pub mod Built
+pub mod Cuts
+pub mod Entered
+pub mod Exclude
 pub mod Lists
+pub mod Moved
 pub mod Orders
+pub mod Places
 pub mod Rising
+pub mod Rows
 pub mod Tables
 pub mod Terms
+pub mod Texts

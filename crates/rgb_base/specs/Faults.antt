@@ -1,5 +1,6 @@
 -- What is wrong with parts that are no index: the first fault in the order of the cases below.
--- The cases exclude each other and exclude an index, so each fault comes exactly where its case holds.
+-- The cases exclude each other and exclude an index, so each fault comes exactly where its case
+-- holds.
 use Rattle.std.specs.Prelude.{◌≡◌, ℕ, List, length, take, slice_get, Some, Contains}
 use Rattle.rgb_base.specs.declared.parts.TermList.{TermList}
 use Rattle.rgb_base.specs.declared.error.PartsError.{PartsError}

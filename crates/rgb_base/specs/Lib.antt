@@ -2,3 +2,10 @@ pub mod Parts
 pub mod Faults
 pub mod Order
 pub mod Laws
+pub mod Gaps
+pub mod Table
+pub mod Building
+pub mod Flat
+pub mod Kept
+pub mod Marks
+pub mod Appended

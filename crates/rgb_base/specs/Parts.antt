@@ -24,7 +24,10 @@ posting_count lists = sum_by (λ list. length list.postings) lists
 
 -- how many bytes of text there are: the description, the terms and the names
 abbrev pub text_size : IndexParts → ℕ
-text_size parts = length parts.header.description + sum_by (λ list. length list.term) parts.lists + sum_by (λ document. length document.name) parts.documents
+text_size parts =
+    length parts.header.description
+    + sum_by (λ list. length list.term) parts.lists
+    + sum_by (λ document. length document.name) parts.documents
 
 -- the postings' documents strictly rise and lie below the number of documents
 pub record IsPostings (documents : ℕ) (postings : List Posting) : Type 0 where

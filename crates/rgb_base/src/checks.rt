@@ -2,8 +2,9 @@
 ghost use Rattle.std.specs.Prelude.{◌≡◌, ◌+◌, ◌<◌, ◌≤◌, ◌^◌, ◌↔◌, length, All, sum_by, FitsSigned, IsTrue, IfOk, IfErr, IfNone, OnSome, MatchOption};
 ghost use Rattle.std.specs.Bool.{OnTrue};
 ghost use Rattle.std.specs.Int.{w32};
-ghost use Rattle.rgb_base.specs.Parts.{IndexParts, terms_of, posting_count, text_size, IsPostings, AreOrdered, AreDifferent, AreSized, IsIndex, FitsHeader, FitsList, FitsRecord};
+ghost use Rattle.rgb_base.specs.Parts.{IndexParts, terms_of, posting_count, text_size, IsPostings, AreCounted, AreOrdered, AreDifferent, AreSized, IsIndex, FitsHeader, FitsList, FitsRecord};
 ghost use Rattle.rgb_base.specs.Faults.{IsFirstDisorder, IsFirstRepeat, IsPartsFault};
+ghost use Rattle.rgb_base.specs.declared.error.PartsError.TheVariants.{OutOfMemory as no_memory};
 
 use crate::error::PartsError;
 use crate::parts::{DocRecord, Header, Posting, TermList};
@@ -11,12 +12,13 @@ use indexmap::IndexSet;
 use std::alloc::{AllocError, Global};
 
 /// Fewer lists than this, and fewer documents.
-const COUNT_LIMIT: usize = 1 << 31;
+pub const COUNT_LIMIT: usize = 1 << 31;
 
 /// The most bytes of text.
-const TEXT_LIMIT: u64 = 1 << 40;
+pub const TEXT_LIMIT: u64 = 1 << 40;
 
-/// Whether the documents strictly rise and lie below their number.
+/// Whether the documents strictly rise and lie below their number. `tf` is read for the proof that
+/// it lies in the range of its type.
 fn rises(documents: u32, postings: &[Posting]) -> bool
     ensures ordered { IsTrue result ↔ IsPostings documents postings.now }
     ensures fits { OnTrue result (All (λ posting. FitsSigned w32 posting.tf) postings.now) }
@@ -32,7 +34,8 @@ fn rises(documents: u32, postings: &[Posting]) -> bool
     true
 }
 
-/// Whether a list is in order.
+/// Whether a list is in order. Its other fields are read for the proof that they lie in the ranges
+/// of their types.
 fn is_ordered(documents: u32, list: &TermList) -> bool
     ensures ordered { IsTrue result ↔ IsPostings documents list.now.postings }
     ensures fits { OnTrue result (FitsList list.now) }
@@ -97,7 +100,8 @@ fn room_after_terms(lists: &[TermList], room: u64) -> Option<u64>
     Some(left)
 }
 
-/// What is left of the room after the names, where they fit.
+/// What is left of the room after the names, where they fit. Each length is read for the proof that
+/// it lies in the range of its type.
 fn room_after_names(documents: &[DocRecord], room: u64) -> Option<u64>
     ensures left { MatchOption result
         (room < sum_by (λ document. length document.name) documents.now)
@@ -112,8 +116,8 @@ fn room_after_names(documents: &[DocRecord], room: u64) -> Option<u64>
     Some(left)
 }
 
-/// Reads the header once, whose numbers lie in the ranges of their types.
-fn header_fits(header: &Header)
+/// Reads the header once, for the proof that its numbers lie in the ranges of their types.
+pub fn header_fits(header: &Header)
     ensures { FitsHeader header.now }
 {
     let _version = header.version;
@@ -153,6 +157,9 @@ pub fn check(
     ensures total { IfOk result (λ total. total ≡ posting_count lists.now) }
     ensures fault { IfErr result
         (IsPartsFault (record { header = header.now; lists = lists.now; documents = documents.now })) }
+    ensures memory { IfErr result (λ e. e ≡ no_memory
+        → AreCounted (record { header = header.now; lists = lists.now; documents = documents.now })
+        × AreOrdered (length documents.now) lists.now) }
 {
     if COUNT_LIMIT <= lists.len() || COUNT_LIMIT <= documents.len() {
         return Err(PartsError::Counts);

@@ -81,3 +81,43 @@ impl From<AllocError> for OrderError {
         OrderError::OutOfMemory
     }
 }
+
+/// Why a builder refuses a piece: the first cause in the order of the call's definition.
+#[derive(Clone, Copy, Debug, PartialEq, Eq, Error)]
+pub enum BuildError {
+    /// There would be 2^31 lists or documents, or more records than documents.
+    #[error("too many lists, documents or records")]
+    Counts,
+    /// The document isn't above the one before it, or not below the number of documents.
+    #[error("the document isn't in order")]
+    Order,
+    /// An earlier list has the term.
+    #[error("an earlier list has the term")]
+    Same,
+    /// There would be 2^32 postings, or more than 2^40 bytes of text.
+    #[error("too many postings or too much text")]
+    Size,
+    /// Memory ran out.
+    #[error("out of memory")]
+    OutOfMemory,
+}
+
+impl From<AllocError> for BuildError {
+    ghost use Rattle.rgb_base.specs.declared.error.BuildError.TheVariants.{OutOfMemory as no_memory};
+
+    ghost from_gives = { λ _ e. e ≡ no_memory };
+
+    fn from(_: AllocError) -> Self {
+        BuildError::OutOfMemory
+    }
+}
+
+impl<T: Drop> From<AllocFailed<T>> for BuildError {
+    ghost use Rattle.rgb_base.specs.declared.error.BuildError.TheVariants.{OutOfMemory as no_memory};
+
+    ghost from_gives = { λ _ e. e ≡ no_memory };
+
+    fn from(_: AllocFailed<T>) -> Self {
+        BuildError::OutOfMemory
+    }
+}

@@ -1,4 +1,4 @@
-//! A permutation of documents, with both ways one look-up.
+//! A permutation of documents, with both ways one look-up: two tables of 4 bytes a document each.
 ghost use Rattle.std.specs.Prelude.{◌≡◌, ℕ, ◌<◌, ◌≤◌, ◌^◌, List, length, map, All, slice_get, slice_index, Some, IfOk, IfErr};
 ghost use Rattle.rgb_base.specs.Order.{IsOrder, IsOrderFault, AreTables, IsInverse, Renumbers, new_of};
 
@@ -91,6 +91,16 @@ impl Permutation {
         Ok(Permutation { order, places })
     }
 
+    /// The permutation that undoes this one, in its place: it takes no memory.
+    pub fn into_inverse(self) -> Permutation
+        ensures same { IsInverse self result }
+    {
+        Permutation {
+            order: self.places,
+            places: self.order,
+        }
+    }
+
     /// A second one like it.
     pub fn copy(&self, alloc: Global) -> Result<Permutation, OutOfMemory>
         ensures ok { IfOk result (λ p. p ≡ self.now) }
@@ -100,7 +110,7 @@ impl Permutation {
         Ok(Permutation { order, places })
     }
 
-    /// First the one, then this one.
+    /// First the one, then this one: `after.new_of(old) = self.new_of(first.new_of(old))`.
     pub fn after(&self, alloc: Global, first: &Permutation) -> Result<Permutation, OutOfMemory>
         requires { length first.now ≡ length self.now }
         ensures ok { IfOk result (λ p. Renumbers p (length self.now) (λ old. new_of self.now (new_of first.now old))) }

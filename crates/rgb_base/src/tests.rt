@@ -177,9 +177,29 @@ fn turns_three(rt: HostRuntime) -> Result<(), Fail> {
     let turn = permutation_of(rt.alloc(), &[1, 2, 0])?;
     assert!(rt; has(&turn, &[1, 2, 0], &[2, 0, 1]));
     assert!(rt; has(&turn.inverse(rt.alloc())?, &[2, 0, 1], &[1, 2, 0]));
+    assert!(rt;
+        has(
+            &turn.copy(rt.alloc())?.into_inverse(),
+            &[2, 0, 1],
+            &[1, 2, 0]
+        )
+    );
     let exchange = permutation_of(rt.alloc(), &[0, 2, 1])?;
     assert_eq!(rt; turn.len(), exchange.len());
     assert!(rt; has(&exchange.after(rt.alloc(), &turn)?, &[1, 0, 2], &[1, 0, 2]));
     assert!(rt; has(&turn.after(rt.alloc(), &exchange)?, &[2, 1, 0], &[2, 1, 0]));
+    Ok(())
+}
+
+#[test]
+fn leaves_many(rt: HostRuntime) -> Result<(), Fail> {
+    let identity = Permutation::identity(rt.alloc(), 100_000)?;
+    assert_eq!(rt; identity.len(), 100_000);
+    for number in 0..identity.len() {
+        assert_eq!(rt;
+            (identity.old_of(number), identity.new_of(number)),
+            (number, number)
+        );
+    }
     Ok(())
 }
