@@ -3,13 +3,14 @@
 -- document number. Each message has its length before it as a varint. The fields of a message stand
 -- by rising number; a number that is 0, an average whose bits are all 0 and an empty text are left
 -- out.
-use Rattle.std.specs.Prelude.{ℕ, ◌+◌, ◌-◌, ◌==◌, ℤ, pos, List, [], ◌∷◌, ◌++◌, length, map, flat_map, if◌then◌else◌}
+use Rattle.std.specs.Prelude.{ℕ, ◌+◌, ◌==◌, ℤ, pos, List, [], ◌∷◌, ◌++◌, length, map, flat_map, if◌then◌else◌}
 use Rattle.ciff_wire.specs.Varint.{varint}
 use Rattle.ciff_wire.specs.Field.{Entry, as_eight, as_bytes}
 use Rattle.ciff_wire.specs.Canonical.{message_of, number_field}
 use Rattle.rgb_base.specs.declared.parts.Posting.{Posting}
 use Rattle.rgb_base.specs.declared.parts.TermList.{TermList}
 use Rattle.rgb_base.specs.declared.parts.DocRecord.{DocRecord}
+use Rattle.rgb_base.specs.Gaps.{gaps_from}
 use Rattle.rgb_base.specs.Parts.{IndexParts}
 
 -- ---- fields
@@ -52,15 +53,6 @@ header_fields index = in_order (
 -- Posting: docid 1, the gap to the document before it in the list, and tf 2
 unfoldable pub posting_fields : ℕ → ℤ → List Entry
 posting_fields gap tf = in_order (number_field 1 (pos gap) ∷ number_field 2 tf ∷ [])
-
--- the gaps of rising documents: each document less the one before it, the first less this one
-unfoldable pub gaps_from : ℕ → List ℕ → List ℕ
-gaps_from before [] = []
-gaps_from before (doc ∷ docs) = (doc - before) ∷ gaps_from doc docs
-
--- the gaps of a list of documents, the first of which counts from 0
-abbrev pub gaps_of : List ℕ → List ℕ
-gaps_of docs = gaps_from 0 docs
 
 -- a field for each posting, with its gap
 unfoldable pub gap_fields : List ℕ → List Posting → List Entry

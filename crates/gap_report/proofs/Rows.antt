@@ -1,10 +1,11 @@
 -- The definitions at gaps whose costs are known.
 use Rattle.std.proofs.Common.{◌≡◌, [], ◌∷◌, refl}
 use Rattle.ciff_wire.specs.Varint.{varint, groups}
-use Rattle.gap_report.specs.Codes.{gaps_of, floor_log, gamma_bits, delta_bits, varint_bytes}
+use Rattle.rgb_base.specs.Gaps.{gaps_of, gaps_from}
+use Rattle.gap_report.specs.Codes.{with_first_more, floor_log, gamma_bits, delta_bits, varint_bytes}
 
-gaps_of_rising : gaps_of (2 ∷ 4 ∷ 5 ∷ []) ≡ 3 ∷ 2 ∷ 1 ∷ []
-unfolding gaps_of
+gaps_of_rising : with_first_more (gaps_of (2 ∷ 4 ∷ 5 ∷ [])) ≡ 3 ∷ 2 ∷ 1 ∷ []
+unfolding with_first_more gaps_from
 gaps_of_rising = refl
 
 gamma_of_1 : gamma_bits 1 ≡ 1

@@ -11,18 +11,18 @@ use Rattle.rgb_base.specs.declared.parts.TermList.{TermList}
 use Rattle.rgb_base.specs.Parts.{IndexParts, IsIndex, IsPostings, posting_count}
 use Rattle.gap_report.specs.declared.tally.Tally.{Tally}
 use Rattle.gap_report.specs.declared.costs.Costs.{Costs}
-use Rattle.gap_report.specs.Codes.{docs_of, gaps_of, gamma_bits, delta_bits, varint_bytes}
+use Rattle.gap_report.specs.Codes.{docs_of, coded_gaps, gamma_bits, delta_bits, varint_bytes}
 use Rattle.gap_report.specs.Costs.{sum_over_gaps, costs_of}
-use Rattle.gap_report.specs.Tally.{Adds, IsTallyOf, IsSumOf}
+use Rattle.gap_report.specs.Tally.{gamma_of, delta_of, bytes_of, Adds, IsTallyOf, IsSumOf}
 use Rattle.gap_report.proofs.Gaps.{no_posting, gaps_of_docs, length-gaps_after}
 use Rattle.gap_report.proofs.Sums.{sum_by-range_more, sum_by-range_both, sum_by-range_le}
 
 -- the sums so far, with those over the gaps that are left, are the first sums with those over all gaps
 pub record IsOnTheWay (first now : Tally) (all left : List ℕ) : Type 0 where
   pub postings : now.postings + length left ≡ first.postings + length all
-  pub gamma : now.gamma + sum_by gamma_bits left ≡ first.gamma + sum_by gamma_bits all
-  pub delta : now.delta + sum_by delta_bits left ≡ first.delta + sum_by delta_bits all
-  pub bytes : now.bytes + sum_by varint_bytes left ≡ first.bytes + sum_by varint_bytes all
+  pub gamma : gamma_of now + sum_by gamma_bits left ≡ gamma_of first + sum_by gamma_bits all
+  pub delta : delta_of now + sum_by delta_bits left ≡ delta_of first + sum_by delta_bits all
+  pub bytes : bytes_of now + sum_by varint_bytes left ≡ bytes_of first + sum_by varint_bytes all
 
 pub IsOnTheWay-start : (first : Tally) (all : List ℕ) → IsOnTheWay first first all all
 IsOnTheWay-start first all = record { postings = refl; gamma = refl; delta = refl; bytes = refl }
@@ -34,9 +34,9 @@ cost_more f start now next gap all left before added = omega (arith, before, add
 pub IsOnTheWay-more : (first now next : Tally) (all left : List ℕ) (gap : ℕ) → IsOnTheWay first now all (gap ∷ left) → Adds now next (gap ∷ []) → IsOnTheWay first next all left
 IsOnTheWay-more first now next all left gap before added = record {
   postings = omega (arith, before.postings, added.postings);
-  gamma = cost_more gamma_bits first.gamma now.gamma next.gamma gap all left before.gamma added.gamma;
-  delta = cost_more delta_bits first.delta now.delta next.delta gap all left before.delta added.delta;
-  bytes = cost_more varint_bytes first.bytes now.bytes next.bytes gap all left before.bytes added.bytes;
+  gamma = cost_more gamma_bits (gamma_of first) (gamma_of now) (gamma_of next) gap all left before.gamma added.gamma;
+  delta = cost_more delta_bits (delta_of first) (delta_of now) (delta_of next) gap all left before.delta added.delta;
+  bytes = cost_more varint_bytes (bytes_of first) (bytes_of now) (bytes_of next) gap all left before.bytes added.bytes;
 }
 
 pub Adds-all : (first now : Tally) (all : List ℕ) → IsOnTheWay first now all [] → Adds first now all
@@ -55,13 +55,13 @@ no_list = record { term = []; df = pos 0; cf = pos 0; postings = [] }
 pub postings_read : (lists : List TermList) (i : ℕ) (postings : List Posting) → i < length lists → option_map (λ (list : TermList). list.postings) (slice_get lists i) ≡ Some postings → (get_or lists i no_list).postings ≡ postings
 postings_read lists i postings within read = let found = slice_get-get_or lists i no_list within in cc
 
-pub IsTallyOf-more : (lists : List TermList) (from to : ℕ) (postings : List Posting) (now next : Tally) → from ≤ to → to < length lists → (get_or lists to no_list).postings ≡ postings → IsTallyOf now (slice_range lists from to) → Adds now next (gaps_of (docs_of postings)) → IsTallyOf next (slice_range lists from (to + 1))
+pub IsTallyOf-more : (lists : List TermList) (from to : ℕ) (postings : List Posting) (now next : Tally) → from ≤ to → to < length lists → (get_or lists to no_list).postings ≡ postings → IsTallyOf now (slice_range lists from to) → Adds now next (coded_gaps postings) → IsTallyOf next (slice_range lists from (to + 1))
 IsTallyOf-more lists from to postings now next order within read before added =
-    let cost : (f : ℕ → ℕ) → sum_over_gaps f (slice_range lists from (to + 1)) ≡ sum_over_gaps f (slice_range lists from to) + sum_by f (gaps_of (docs_of postings)) =
-    λ f. sum_by-range_more (λ (list : TermList). sum_by f (gaps_of (docs_of list.postings))) lists from to no_list order within
-    ∙ ap (λ (ps : List Posting). sum_over_gaps f (slice_range lists from to) + sum_by f (gaps_of (docs_of ps))) read in
+    let cost : (f : ℕ → ℕ) → sum_over_gaps f (slice_range lists from (to + 1)) ≡ sum_over_gaps f (slice_range lists from to) + sum_by f (coded_gaps postings) =
+    λ f. sum_by-range_more (λ (list : TermList). sum_by f (coded_gaps list.postings)) lists from to no_list order within
+    ∙ ap (λ (ps : List Posting). sum_over_gaps f (slice_range lists from to) + sum_by f (coded_gaps ps)) read in
     let count = sum_by-range_more (λ (list : TermList). length list.postings) lists from to no_list order within in
-    let gaps : length (gaps_of (docs_of postings)) ≡ length postings = ap length (gaps_of_docs postings) ∙ length-gaps_after 0 postings in
+    let gaps : length (coded_gaps postings) ≡ length postings = ap length (gaps_of_docs postings) ∙ length-gaps_after 0 postings in
     record {
       postings = omega (arith, before.postings, added.postings, count, gaps, ap length read);
       gamma = omega (arith, before.gamma, added.gamma, cost gamma_bits);
@@ -72,7 +72,7 @@ IsTallyOf-more lists from to postings now next order within read before added =
 pub IsTallyOf-both : (lists : List TermList) (from middle to : ℕ) (whole a b : Tally) → from ≤ middle → middle ≤ to → IsSumOf whole a b → IsTallyOf a (slice_range lists from middle) → IsTallyOf b (slice_range lists middle to) → IsTallyOf whole (slice_range lists from to)
 IsTallyOf-both lists from middle to whole a b low high sum front back =
     let cost : (f : ℕ → ℕ) → sum_over_gaps f (slice_range lists from to) ≡ sum_over_gaps f (slice_range lists from middle) + sum_over_gaps f (slice_range lists middle to) =
-    λ f. sum_by-range_both (λ (list : TermList). sum_by f (gaps_of (docs_of list.postings))) lists from middle to low high in
+    λ f. sum_by-range_both (λ (list : TermList). sum_by f (coded_gaps list.postings)) lists from middle to low high in
     record {
       postings = omega (arith, sum.postings, front.postings, back.postings, sum_by-range_both (λ (list : TermList). length list.postings) lists from middle to low high);
       gamma = omega (arith, sum.gamma, front.gamma, back.gamma, cost gamma_bits);
@@ -111,7 +111,7 @@ both_have_room index from middle to sound low high =
 abbrev pub costs_made : ℕ → ℕ → ℕ → ℕ → Costs
 costs_made postings gamma delta bytes = record { postings = postings; gamma = gamma; delta = delta; bytes = bytes }
 
-pub costs_from_tally : (index : IndexParts) (tally : Tally) (postings gamma delta bytes : ℕ) → IsTallyOf tally (slice_range index.lists 0 (length index.lists)) → postings ≡ tally.postings → gamma ≡ tally.gamma → delta ≡ tally.delta → bytes ≡ tally.bytes
+pub costs_from_tally : (index : IndexParts) (tally : Tally) (postings gamma delta bytes : ℕ) → IsTallyOf tally (slice_range index.lists 0 (length index.lists)) → postings ≡ tally.postings → gamma ≡ gamma_of tally → delta ≡ delta_of tally → bytes ≡ bytes_of tally
     → costs_made postings gamma delta bytes ≡ costs_of index
 unfolding costs_of
 costs_from_tally index tally postings gamma delta bytes is p g d b =

@@ -1,24 +1,25 @@
 -- What a gap costs in three codes: the gamma and the delta code (P. Elias, "Universal codeword sets
 -- and representations of the integers", IEEE Transactions on Information Theory 21, 1975) and the
 -- varint (Protocol Buffers, "Encoding").
-use Rattle.std.specs.Prelude.{ℕ, ◌+◌, ◌-◌, ◌*◌, ◌^◌, List, [], ◌∷◌, length, map, zip, drop}
-use Rattle.std.specs.Prelude.{count_by, nat_le}
+use Rattle.std.specs.Prelude.{ℕ, ◌+◌, ◌*◌, ◌^◌, List, [], ◌∷◌, length, map, count_by, nat_le}
 use Rattle.std.specs.List.{range_with_len}
 use Rattle.ciff_wire.specs.Varint.{varint}
 use Rattle.rgb_base.specs.declared.parts.Posting.{Posting}
+use Rattle.rgb_base.specs.Gaps.{gaps_of}
 
 -- ---- gaps
 
 abbrev pub docs_of : List Posting → List ℕ
 docs_of postings = map (λ posting. posting.doc) postings
 
-abbrev pub differences : List ℕ → List ℕ
-differences numbers = map (λ pair. pair.1 - pair.0) (zip numbers (drop 1 numbers))
+-- 1 is added to the first gap, so that none is 0
+unfoldable pub with_first_more : List ℕ → List ℕ
+with_first_more [] = []
+with_first_more (gap ∷ gaps) = (gap + 1) ∷ gaps
 
--- the gaps of rising documents: the first one's number plus 1, then the differences of neighbours
-unfoldable pub gaps_of : List ℕ → List ℕ
-gaps_of [] = []
-gaps_of (first ∷ others) = (first + 1) ∷ differences (first ∷ others)
+-- the gaps of postings as they are coded
+abbrev pub coded_gaps : List Posting → List ℕ
+coded_gaps postings = with_first_more (gaps_of (docs_of postings))
 
 -- ---- codes
 

@@ -3,11 +3,11 @@ use Rattle.std.specs.Prelude.{ℕ, List, sum_by}
 use Rattle.rgb_base.specs.declared.parts.TermList.{TermList}
 use Rattle.rgb_base.specs.Parts.{IndexParts, posting_count}
 use Rattle.gap_report.specs.declared.costs.Costs.{Costs}
-use Rattle.gap_report.specs.Codes.{docs_of, gaps_of, gamma_bits, delta_bits, varint_bytes}
+use Rattle.gap_report.specs.Codes.{coded_gaps, gamma_bits, delta_bits, varint_bytes}
 
 -- the cost of each gap of each list, added up
 abbrev pub sum_over_gaps : (ℕ → ℕ) → List TermList → ℕ
-sum_over_gaps cost lists = sum_by (λ list. sum_by cost (gaps_of (docs_of list.postings))) lists
+sum_over_gaps cost lists = sum_by (λ list. sum_by cost (coded_gaps list.postings)) lists
 
 unfoldable pub costs_of : IndexParts → Costs
 costs_of index = record {

@@ -29,11 +29,13 @@ impl Costs {
         ensures ok { result ≡ Ok (costs_of index.now) }
     {
         let tally = tally_of(rt, index, 0, index.lists(), index.total_postings(), workers);
+        let postings = u128::from(tally.postings);
+        let exponents = u128::from(tally.exponents);
         Ok(Costs {
-            postings: u128::from(tally.postings),
-            gamma: u128::from(tally.gamma),
-            delta: u128::from(tally.delta),
-            bytes: u128::from(tally.bytes),
+            postings,
+            gamma: 2 * exponents + postings,
+            delta: exponents + 2 * u128::from(tally.lengths) + postings,
+            bytes: u128::from(tally.groups) + postings,
         })
     }
 }

@@ -1,7 +1,6 @@
 //! What the gaps of an index cost in Elias's gamma and delta codes and as varints.
 #![tactic(auto)]
 
-mod bits;
 mod costs;
 pub mod laws;
 mod tally;

@@ -1,27 +1,39 @@
 //! Sums over gaps, in 64 bits.
 ghost use Rattle.std.specs.Prelude.{◌≡◌, ◌+◌, ◌*◌, ◌<◌, ◌≤◌, ◌^◌, length};
+ghost use Rattle.gap_report.specs.Codes.{floor_log};
 
-use crate::bits::{delta_bits, gamma_bits};
-use ciff_wire::{varint_is_shortest, varint_len};
 use rgb_base::{Index, Posting};
 
-/// Sums over gaps that were seen. No gap costs more than 128 of any kind.
+/// The floor of the logarithm to base two.
+#[inline]
+fn floor_log(number: u32) -> u32
+    requires { 0 < number }
+    ensures same { result ≡ floor_log number }
+    ensures most { result < 32 }
+{
+    number.ilog2()
+}
+
+/// Sums over gaps that were seen, from which their costs follow. A gap's exponent is the floor of
+/// its logarithm.
 #[derive(Clone, Copy)]
 pub struct Tally {
     pub postings: u64,
-    pub gamma: u64,
-    pub delta: u64,
-    pub bytes: u64,
-    ghost gamma_most: { gamma ≤ 128 * postings },
-    ghost delta_most: { delta ≤ 128 * postings },
-    ghost bytes_most: { bytes ≤ 128 * postings },
+    /// The sum of the exponents.
+    pub exponents: u64,
+    /// The sum of the floors of the logarithms of the exponents plus 1.
+    pub lengths: u64,
+    /// The sum of the numbers of whole groups of seven bits below each highest bit.
+    pub groups: u64,
+    ghost exponents_most: { exponents ≤ 32 * postings },
+    ghost lengths_most: { lengths ≤ 32 * postings },
+    ghost groups_most: { groups ≤ 32 * postings },
 }
 
 impl Tally {
     ghost use Rattle.std.specs.Prelude.{[], ◌∷◌, All, slice_range};
     ghost use Rattle.std.specs.List.Sorted.{IsStrictlyIncreasing};
-    ghost use Rattle.ciff_wire.specs.Varint.{varint};
-    ghost use Rattle.gap_report.specs.Codes.{docs_of, gaps_of};
+    ghost use Rattle.gap_report.specs.Codes.{docs_of, coded_gaps};
     ghost use Rattle.gap_report.specs.Tally.{Adds, IsTallyOf, IsSumOf};
 
     /// Before any gap.
@@ -30,9 +42,9 @@ impl Tally {
     {
         Tally {
             postings: 0,
-            gamma: 0,
-            delta: 0,
-            bytes: 0,
+            exponents: 0,
+            lengths: 0,
+            groups: 0,
         }
     }
 
@@ -40,15 +52,15 @@ impl Tally {
     #[inline]
     fn with_gap(self, gap: u32) -> Tally
         requires some { 0 < gap }
-        requires short { length (varint gap) ≤ 10 }
         requires room { self.postings < 2 ^ 32 }
         ensures { Adds self result (gap ∷ []) }
     {
+        let exponent = floor_log(gap);
         Tally {
             postings: self.postings + 1,
-            gamma: self.gamma + u64::from(gamma_bits(gap)),
-            delta: self.delta + u64::from(delta_bits(gap)),
-            bytes: self.bytes + varint_len(u64::from(gap)) as u64,
+            exponents: self.exponents + u64::from(exponent),
+            lengths: self.lengths + u64::from(floor_log(exponent + 1)),
+            groups: self.groups + u64::from(exponent / 7),
         }
     }
 
@@ -57,9 +69,8 @@ impl Tally {
         requires rising { IsStrictlyIncreasing (docs_of postings.now) }
         requires below { All (λ posting. posting.doc < 2 ^ 31) postings.now }
         requires room { self.postings + length postings.now < 2 ^ 32 }
-        ensures { Adds self result (gaps_of (docs_of postings.now)) }
+        ensures { Adds self result (coded_gaps postings.now) }
     {
-        varint_is_shortest();
         let mut tally = self;
         let mut before = 0;
         for posting in postings {
@@ -77,9 +88,9 @@ impl Tally {
     {
         Tally {
             postings: self.postings + other.postings,
-            gamma: self.gamma + other.gamma,
-            delta: self.delta + other.delta,
-            bytes: self.bytes + other.bytes,
+            exponents: self.exponents + other.exponents,
+            lengths: self.lengths + other.lengths,
+            groups: self.groups + other.groups,
         }
     }
 

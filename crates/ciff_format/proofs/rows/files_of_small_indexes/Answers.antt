@@ -1,7 +1,8 @@
 use Rattle.std.proofs.Common.{refl}
 use Rattle.ciff_wire.specs.Varint.{groups, varint}
 use Rattle.ciff_wire.specs.Canonical.{message_of}
-use Rattle.ciff_format.specs.Canonical.{header_fields, posting_fields, gap_fields, gaps_from, postings_fields, list_fields, record_fields, framed, records_from, bytes_of}
+use Rattle.ciff_format.specs.Canonical.{header_fields, posting_fields, gap_fields, postings_fields, list_fields, record_fields, framed, records_from, bytes_of}
+use Rattle.rgb_base.specs.Gaps.{gaps_from}
 use Rattle.ciff_format.proofs.rows.files_of_small_indexes.Goals as goal
 
 pub returns-clause-nothing : goal.returns-clause-nothing

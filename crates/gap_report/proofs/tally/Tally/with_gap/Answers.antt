@@ -1,15 +1,18 @@
-use Rattle.std.proofs.Common.{◌≡◌, length, ap, arith, rules}
-use Rattle.ciff_wire.specs.Varint.{varint}
-use Rattle.gap_report.specs.Codes.{varint_bytes}
+use Rattle.std.proofs.Common.{◌≡◌, ◌+◌, ◌/◌, ap, arith, ◌∙◌}
+use Rattle.gap_report.specs.Codes.{floor_log, gamma_bits, delta_bits}
+use Rattle.gap_report.proofs.Logs.{varint_bytes_is}
 use Rattle.gap_report.proofs.tally.Tally.with_gap.Goals as goal
 
 pub returns : goal.returns
-unfolding varint_bytes
+unfolding gamma_bits delta_bits
 returns c =
-    let wide : length (varint c.from-3.result) ≡ length (varint c.args.gap) = ap (λ n. length (varint n)) c.from-3.ensures in
+    let gap = c.args.gap in
+    let exponent : c.from.result ≡ floor_log gap = c.from.ensures ∙ c.floor_log-exponent.ensures.same in
+    let log : c.from-2.result ≡ floor_log (floor_log gap + 1) = c.from-2.ensures ∙ (c.floor_log.ensures.same ∙ ap (λ n. floor_log (n + 1)) c.floor_log-exponent.ensures.same) in
+    let seventh : c.from-3.result ≡ floor_log gap / 7 = c.from-3.ensures ∙ ap (λ n. n / 7) c.floor_log-exponent.ensures.same in
     record {
-      postings = search rules;
-      gamma = omega (arith, c.gamma_bits.ensures.same, c.from.ensures);
-      delta = omega (arith, c.delta_bits.ensures.same, c.from-2.ensures);
-      bytes = omega (arith, c.varint_len.ensures.same, wide);
+      postings = omega arith;
+      gamma = omega (arith, exponent);
+      delta = omega (arith, exponent, log);
+      bytes = omega (arith, seventh, varint_bytes_is gap c.requires.some (omega arith));
     }

@@ -21,12 +21,6 @@ with_gap-tally-requires-clause-room c =
     let within = c.loop-posting-test.true in
     omega (arith, c.loop-posting.invariant.sums.postings, length-gaps_after 0 postings, length-gaps_after c.loop-posting.before (drop i postings), length-drop i postings, c.requires.room)
 
-pub with_gap-tally-requires-clause-short : goal.with_gap-tally-requires-clause-short
-with_gap-tally-requires-clause-short c =
-    let doc = (get_or c.args.postings.now c.loop-posting.posting-index no_posting).doc in
-    (c.varint_is_shortest.ensures.shortest (doc + 1 - c.loop-posting.before)
-    (omega (arith, c.requires.below c.loop-posting.posting-index no_posting c.loop-posting-test.true))).0.most
-
 pub loop-posting-preserved : goal.loop-posting-preserved
 loop-posting-preserved c =
     let postings = c.args.postings.now in

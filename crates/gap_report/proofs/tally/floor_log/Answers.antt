@@ -1,7 +1,7 @@
 use Rattle.std.proofs.Common.{◌+◌, ◌^◌, ◌<◌, arith, add-one, sym}
 use Rattle.std.proofs.Math.Nat.{pow-suc}
 use Rattle.gap_report.proofs.Logs.{floor_log_is}
-use Rattle.gap_report.proofs.bits.floor_log.Goals as goal
+use Rattle.gap_report.proofs.tally.floor_log.Goals as goal
 
 pub returns-clause-same : goal.returns-clause-same
 returns-clause-same c =
