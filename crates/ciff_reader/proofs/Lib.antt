@@ -1,0 +1,14 @@
+pub mod Fronts
+pub mod Slots
+pub mod RecordFields
+pub mod HeaderFields
+pub mod Rows
+pub mod ListFields
+pub mod Closing
+pub mod Reading
+pub mod Windows
+pub mod Frames
+pub mod Steps
+pub mod Placing
+pub mod Readings
+pub mod Whole

@@ -1,0 +1,113 @@
+-- A list's message, read field after field.
+use Rattle.std.proofs.Common.{◌≡◌, ◌≢◌, ◌⊎◌, inl, inr, ℕ, ◌+◌, ◌-◌, ◌^◌, ◌<◌, ◌≤◌, Bool, true, false, IsTrue, ℤ, pos, List, [], ◌∷◌, ◌++◌, length, map, take, drop, refl, sym, ap, subst, ◌∙◌, arith, Result, Ok, Err, OnOk, IfErr}
+use Rattle.std.specs.Prelude.{◌≤ℤ◌, ◌<ℤ◌, Option}
+use Rattle.std.specs.List.{All, AllZip}
+use Rattle.ciff_format.specs.Accepted.{Front}
+use Rattle.rgb_base.specs.declared.parts.Posting.{Posting}
+use Rattle.std.proofs.lemmas.Int.{ints}
+use Rattle.std.proofs.lemmas.List.Elements.{All-nil}
+use Rattle.ciff_wire.specs.Field.{Held, Entry, SpellsField, IsMessage, as_bytes}
+use Rattle.ciff_wire.specs.Laws.{FieldIsAdded}
+use Rattle.rgb_base.specs.Building.{Building}
+use Rattle.ciff_format.specs.declared.cause.Cause.{Cause}
+use Rattle.ciff_format.specs.Fields.{list_table, posting_table, HasItsType, HasFields, HasText, bytes_or_none, int64_at, held_at, number_or_zero}
+use Rattle.ciff_format.specs.Messages.{PostingRows, HasListFields, gaps_in, sums_from, AreGaps}
+use Rattle.ciff_format.specs.Growing.{NothingHeld, TypesGrow, WrongTypeIsBad, BadPostingIsBad, sum_after, least_gap}
+use Rattle.ciff_format.specs.Refused.{IsListFault}
+use Rattle.std.specs.Int.{w64, cast_signed}
+use Rattle.ciff_reader.specs.declared.error.Refusal.{Refusal}
+use Rattle.ciff_reader.specs.declared.gaps.Gaps.{Gaps}
+use Rattle.ciff_reader.specs.declared.list.ListFields.{ListFields}
+use Rattle.ciff_reader.specs.Listing.{listing, without_postings, ChangesPostings, IsRefusal, IsBadField, SaysList, SaysPostings, ReadsList, AddsList}
+use Rattle.ciff_reader.proofs.Fronts.{fields_begin, field_added, wrong_type}
+
+no_gaps : (documents : ℕ) → AreGaps documents []
+unfolding sums_from
+no_gaps documents = record {
+  first = All-nil (λ gap. pos 0 ≤ℤ gap);
+  later = All-nil (λ gap. pos 1 ≤ℤ gap);
+  below = All-nil (λ sum. sum <ℤ pos documents);
+}
+
+pub list_begins : NothingHeld → (message : List ℕ) (kept : ListFields) (gaps : Gaps) (building : Building)
+    → kept.term.now ≡ [] → kept.df ≡ pos 0 → kept.cf ≡ pos 0 → kept.are_texts ≡ true
+    → gaps.least ≡ 0 → gaps.document ≡ 0 → gaps.are_good ≡ true → gaps.are_few ≡ true → building.postings ≡ []
+    → ReadsList (take 0 message) kept gaps building
+unfolding sums_from sum_after
+list_begins nothing message kept gaps building term df cf texts least document good few none = record {
+  fields = [];
+  rows = [];
+  read = fields_begin list_table message;
+  says = record {
+    term = λ was. term ∙ sym (ap bytes_or_none (nothing 1).0);
+    df = df ∙ sym (ap (λ (h : Option Held). cast_signed w64 (number_or_zero h)) (nothing 2).0);
+    cf = cf ∙ sym (ap (λ (h : Option Held). cast_signed w64 (number_or_zero h)) (nothing 3).0);
+    texts = (λ was. All-nil (HasText list_table), λ all. texts);
+  };
+  postings = record {
+    each = subst (λ (ms : List (List ℕ)). AllZip (HasFields posting_table) ms []) (sym (nothing 4).1) tt;
+    gaps = record {
+      good = λ was. record {
+        good = no_gaps building.documents;
+        least = ap pos least;
+        document = ap pos document;
+        few = λ is. record { documents = ap (map (λ (p : Posting). pos p.doc)) none; frequencies = ap (map (λ (p : Posting). p.tf)) none };
+        many = λ isnt. absurd (isnt few);
+      };
+      bad = λ isnt. absurd (isnt good);
+    };
+  };
+}
+
+pub list_goes_on : FieldIsAdded → TypesGrow → (message rest : List ℕ) (at used : ℕ) (entry : Entry) (kept kept' : ListFields) (gaps gaps' : Gaps) (building building' : Building)
+    → rest ≡ drop at message → SpellsField (take used rest) entry
+    → HasItsType list_table entry × ((fields : List Entry) → SaysList fields kept → SaysList (fields ++ entry ∷ []) kept')
+    → ((fields : List Entry) (rows : PostingRows) → SaysPostings fields rows gaps building → (rows' : PostingRows) × SaysPostings (fields ++ entry ∷ []) rows' gaps' building')
+    → ReadsList (take at message) kept gaps building → ReadsList (take (at + used) message) kept' gaps' building'
+list_goes_on added grow message rest at used entry kept kept' gaps gaps' building building' behind spells taken pushed reads =
+    let more = pushed reads.fields reads.rows reads.postings in
+    record {
+      fields = reads.fields ++ entry ∷ [];
+      rows = more.0;
+      read = field_added added grow list_table message rest at used reads.fields entry behind spells taken.0 reads.read;
+      says = taken.1 reads.fields reads.says;
+      postings = more.1;
+    }
+
+-- a bad field behind the fields of a front
+pub bad_field : FieldIsAdded → TypesGrow → WrongTypeIsBad → BadPostingIsBad → (message rest : List ℕ) (at used : ℕ) (front : List Entry) (entry : Entry)
+    → rest ≡ drop at message → SpellsField (take used rest) entry → IsBadField entry → HasFields list_table (take at message) front
+    → (fields : List Entry) (rows : PostingRows) → ¬ HasListFields message fields rows
+bad_field added grow wrong bad message rest at used front entry behind spells (inl other) read fields rows = λ has.
+    wrong_type added grow wrong list_table message rest at used front entry behind spells other read fields has.own
+bad_field added grow wrong bad message rest at used front entry behind spells (inr posting) read fields rows =
+    bad message posting.0 front fields rows (at + used)
+    (subst (λ (e : Entry). IsMessage (take (at + used) message) (front ++ e ∷ [])) posting.1
+    (added message front entry at used read.spelt (subst (λ (bs : List ℕ). SpellsField (take used bs) entry) behind spells)))
+    posting.2
+
+-- the index being built, but for the open list
+pub was_without : (before after : Building) → before.postings ≡ [] → ChangesPostings before after → without_postings after ≡ before
+was_without before after none same =
+    ap without_postings same ∙ sym (ap (λ (ps : List Posting). record before { postings = ps }) none)
+
+listing_stays : (lists : ℕ) (before after : Building) → ChangesPostings before after → listing lists after ≡ listing lists before
+listing_stays lists before after same = ap (listing lists) same
+
+pub closed_ok : (message : List ℕ) (kept : ListFields) (gaps : Gaps) (before now after : Building) (result : Result (Unit {0}) Refusal) → before.postings ≡ [] → ChangesPostings before now
+    → ReadsList message kept gaps now
+    → OnOk result ((m : List ℕ) → ReadsList m kept gaps now → AddsList m (without_postings now) after)
+    → OnOk result (AddsList message before after)
+closed_ok message kept gaps before now after (Ok x) none same reads is = subst (λ (b : Building). AddsList message b after) (was_without before now none same) (is message reads)
+closed_ok message kept gaps before now after (Err e) none same reads is = tt
+
+pub closed_fault : (message : List ℕ) (kept : ListFields) (gaps : Gaps) (before now : Building) (result : Result (Unit {0}) Refusal) → ChangesPostings before now
+    → ReadsList message kept gaps now
+    → IfErr result (λ refusal. (m : List ℕ) (lists : ℕ) → ReadsList m kept gaps now → IsRefusal (IsListFault (listing lists now) m) refusal)
+    → IfErr result (λ refusal. (lists : ℕ) → IsRefusal (IsListFault (listing lists before) message) refusal)
+closed_fault message kept gaps before now (Ok x) same reads is = tt
+closed_fault message kept gaps before now (Err refusal) same reads is = λ lists.
+    subst (λ (front : Front). IsRefusal (IsListFault front message) refusal) (listing_stays lists before now same) (is message lists reads)
+
+pub changes_twice : (a b c : Building) → ChangesPostings a b → ChangesPostings b c → ChangesPostings a c
+changes_twice a b c first second = second ∙ ap (λ (x : Building). record x { postings = c.postings }) first

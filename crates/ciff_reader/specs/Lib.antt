@@ -1,0 +1,6 @@
+pub mod Reading
+pub mod Says
+pub mod Listing
+pub mod Window
+pub mod Steps
+pub mod Awaited

@@ -1,0 +1,103 @@
+//! The postings of a list, as gaps between their documents.
+ghost use Rattle.std.specs.Prelude.{◌≡◌, List, [], ◌∷◌, ◌++◌, IfOk, IsTrue};
+ghost use Rattle.ciff_wire.specs.Field.{Entry, entry_of};
+ghost use Rattle.rgb_base.specs.Building.{IsNextDocument, IsFullOfPostings, with_posting};
+ghost use Rattle.ciff_format.specs.Messages.{PostingRows};
+ghost use Rattle.ciff_reader.specs.Says.{SaysPosting};
+ghost use Rattle.ciff_reader.specs.Listing.{ChangesPostings, SaysGaps, TakesPosting};
+
+use crate::content::bytes_in;
+use crate::posting::{PostingFields, read_posting};
+use ciff_format::laws::{fields_grow, gaps_grow};
+use ciff_wire::Field;
+use rgb_base::{BuildError, IndexBuilder, OutOfMemory, Posting};
+
+/// What the gaps of a list say so far.
+#[derive(Clone, Copy)]
+pub(crate) struct Gaps {
+    /// The least gap that may come next: 0 for the first posting of a list, then 1.
+    pub least: u32,
+    /// The document that the gaps lead to.
+    pub document: u32,
+    /// Whether each gap so far is good. Where one isn't, nothing else is kept.
+    pub are_good: bool,
+    /// Whether the index has room for each posting so far.
+    pub are_few: bool,
+}
+
+impl Gaps {
+    /// One more field of the list's message, or nothing where the posting in it can't be read.
+    #[inline]
+    pub(crate) fn with_field(
+        self,
+        field: Field<'_>,
+        builder: &mut IndexBuilder,
+    ) -> Result<Option<Gaps>, OutOfMemory>
+        ensures same { ChangesPostings builder.old builder.new }
+        ensures taken { IfOk result (λ after.
+            TakesPosting (entry_of field.entry) self builder.old after builder.new) }
+    {
+        fields_grow();
+        if field.number != 4 {
+            return Ok(Some(self));
+        }
+        let Some(message) = bytes_in(field.content) else {
+            return Ok(None);
+        };
+        let Some(posting) = read_posting(message) else {
+            return Ok(None);
+        };
+        Ok(Some(self.with_posting(posting, builder)?))
+    }
+
+    /// One more posting, which is pushed to the open list where its gap is good and there is room.
+    #[inline]
+    fn with_posting(
+        self,
+        posting: PostingFields,
+        builder: &mut IndexBuilder,
+    ) -> Result<Gaps, OutOfMemory>
+        ensures same { ChangesPostings builder.old builder.new }
+        ensures taken { IfOk result (λ after. (rows : PostingRows) (row : List Entry)
+            → SaysPosting row posting → SaysGaps rows self builder.old
+            → SaysGaps (rows ++ row ∷ []) after builder.new) }
+    {
+        gaps_grow();
+        if !self.are_good {
+            return Ok(self);
+        }
+        let gap = i64::from(posting.gap);
+        let sum = i64::from(self.document) + gap;
+        if gap < i64::from(self.least) || i64::from(builder.documents()) <= sum {
+            return Ok(Gaps {
+                are_good: false,
+                ..self
+            });
+        }
+        let document = sum as u32;
+        let are_few = self.are_few && has_pushed(document, posting.tf, builder)?;
+        Ok(Gaps {
+            least: 1,
+            document,
+            are_good: true,
+            are_few,
+        })
+    }
+}
+
+/// Pushes a posting whose document is good to the open list, and says whether there was room for it.
+#[inline]
+fn has_pushed(doc: u32, tf: i32, builder: &mut IndexBuilder) -> Result<bool, OutOfMemory>
+    ensures same { ChangesPostings builder.old builder.new }
+    ensures pushed { IfOk result (λ pushed. IsTrue pushed
+        → builder.new ≡ with_posting builder.old (record { doc = doc; tf = tf })) }
+    ensures full { IfOk result (λ pushed. ¬ IsTrue pushed
+        → (builder.new ≡ builder.old)
+        × (IsNextDocument builder.old doc → IsFullOfPostings builder.old)) }
+{
+    match builder.push_posting(Posting { doc, tf }) {
+        Ok(()) => Ok(true),
+        Err(BuildError::OutOfMemory) => Err(OutOfMemory),
+        Err(_) => Ok(false),
+    }
+}

@@ -1,0 +1,31 @@
+//! Reading a CIFF file as an index, piece by piece as the host gives it.
+#![tactic(auto)]
+
+mod content;
+mod documents;
+mod end;
+mod error;
+mod gaps;
+mod header;
+mod heading;
+mod list;
+mod lists;
+mod message;
+mod posting;
+mod read;
+mod record;
+mod records;
+mod waiting;
+mod window;
+
+pub use error::ReadError;
+pub use read::read_index;
+
+#[cfg(test)]
+mod list_tests;
+#[cfg(test)]
+mod record_tests;
+#[cfg(test)]
+mod test_files;
+#[cfg(test)]
+mod tests;

@@ -1,0 +1,144 @@
+//! Reading the message of a list into an index that is being built.
+ghost use Rattle.std.specs.Prelude.{◌≡◌, ℕ, ◌+◌, ◌^◌, ◌<◌, List, [], length, IfErr, OnOk};
+ghost use Rattle.ciff_wire.specs.Field.{entry_of};
+ghost use Rattle.ciff_format.specs.Fields.{list_table};
+ghost use Rattle.ciff_format.specs.Refused.{IsListFault};
+ghost use Rattle.ciff_reader.specs.Says.{TakesField};
+ghost use Rattle.ciff_reader.specs.Listing.{listing, without_postings, IsRefusal, SaysList, ReadsList, AddsList};
+
+use crate::content::{bytes_in, number_in, text_of};
+use crate::error::Refusal;
+use crate::gaps::Gaps;
+use ciff_format::Cause;
+use ciff_format::laws::fields_grow;
+use ciff_wire::laws::{field_after_field, message_is_one};
+use ciff_wire::{Field, as_i64, next_field};
+use rgb_base::{BuildError, IndexBuilder};
+
+/// What the fields of a list's message say so far, without its postings.
+#[derive(Clone, Copy)]
+pub(crate) struct ListFields<'a> {
+    pub term: &'a str,
+    pub df: i64,
+    pub cf: i64,
+    /// Whether each term so far is UTF-8. Where one isn't, `term` says nothing.
+    pub are_texts: bool,
+}
+
+impl<'a> ListFields<'a> {
+    /// One more field, or nothing where it has a wrong wire type.
+    #[inline]
+    fn with_field(self, field: Field<'a>) -> Option<Self>
+        ensures taken { TakesField list_table SaysList (entry_of field.entry) self.entry result }
+    {
+        fields_grow();
+        match field.number {
+            1 => match text_of(bytes_in(field.content)?) {
+                Some(term) => Some(ListFields { term, ..self }),
+                None => Some(ListFields {
+                    are_texts: false,
+                    ..self
+                }),
+            },
+            2 => Some(ListFields {
+                df: as_i64(number_in(field.content)?),
+                ..self
+            }),
+            3 => Some(ListFields {
+                cf: as_i64(number_in(field.content)?),
+                ..self
+            }),
+            4 => {
+                bytes_in(field.content)?;
+                Some(self)
+            }
+            _ => Some(self),
+        }
+    }
+
+    /// Closes the open list, or says what is wrong with it.
+    fn close(self, gaps: Gaps, builder: &mut IndexBuilder) -> Result<(), Refusal>
+        requires no_record { builder.old.records ≡ [] }
+        requires few { length builder.old.lists + 1 < 2 ^ 31 }
+        ensures ok { OnOk result ((message : List ℕ)
+            → ReadsList message self.entry gaps builder.old
+            → AddsList message (without_postings builder.old) builder.new) }
+        ensures fault { IfErr result (λ refusal. (message : List ℕ) (lists : ℕ)
+            → ReadsList message self.entry gaps builder.old
+            → IsRefusal (IsListFault (listing lists builder.old) message) refusal) }
+    {
+        builder.is_sound();
+        if !self.are_texts {
+            return Err(Refusal::Cause(Cause::BadText));
+        }
+        if !gaps.are_good {
+            return Err(Refusal::Cause(Cause::BadGap));
+        }
+        if !gaps.are_few {
+            return Err(Refusal::Cause(if builder.has_term(self.term) {
+                Cause::SameTerm
+            } else {
+                Cause::TooMuch
+            }));
+        }
+        match builder.close_list(self.term, self.df, self.cf) {
+            Ok(()) => {
+                builder.is_sound();
+                Ok(())
+            }
+            Err(error) => Err(match error {
+                BuildError::Same => Refusal::Cause(Cause::SameTerm),
+                BuildError::Size => Refusal::Cause(Cause::TooMuch),
+                _ => Refusal::OutOfMemory,
+            }),
+        }
+    }
+}
+
+/// Reads a list's message, and closes the list that it says behind the others. What a refusal leaves
+/// in the open list is free.
+pub(crate) fn read_list(message: &[u8], builder: &mut IndexBuilder) -> Result<(), Refusal>
+    requires none_open { builder.old.postings ≡ [] }
+    requires no_record { builder.old.records ≡ [] }
+    requires few { length builder.old.lists + 1 < 2 ^ 31 }
+    ensures ok { OnOk result (AddsList message.now builder.old builder.new) }
+    ensures fault { IfErr result (λ refusal. (lists : ℕ)
+        → IsRefusal (IsListFault (listing lists builder.old) message.now) refusal) }
+{
+    fields_grow();
+    field_after_field();
+    message_is_one();
+    let mut kept = ListFields {
+        term: "",
+        df: 0,
+        cf: 0,
+        are_texts: true,
+    };
+    let mut gaps = Gaps {
+        least: 0,
+        document: 0,
+        are_good: true,
+        are_few: true,
+    };
+    let mut at = 0;
+    'fields: loop {
+        let Ok(next) = next_field(&message[at..]) else {
+            return Err(Refusal::Cause(Cause::BadField));
+        };
+        let Some((field, used)) = next else {
+            return kept.close(gaps, builder);
+        };
+        let Some(more) = kept.with_field(field) else {
+            return Err(Refusal::Cause(Cause::BadField));
+        };
+        let Ok(taken) = gaps.with_field(field, builder) else {
+            return Err(Refusal::OutOfMemory);
+        };
+        let Some(further) = taken else {
+            return Err(Refusal::Cause(Cause::BadField));
+        };
+        kept = more;
+        gaps = further;
+        at += used;
+    }
+}
