@@ -15,10 +15,34 @@ work=$(mktemp -d)
 trap 'rm -rf "$work"' EXIT
 cd "$work" || exit 1
 
-# The 25 bytes of one list and one document, and a file of two documents.
+# The 25 bytes of one list and one document; the same with its fields reversed, defaults written and an
+# unknown field; two documents; two lists of one term; and one byte too many.
 printf '\6\10\1\20\1\30\1\13\12\1\141\20\1\30\2\42\2\20\2\5\22\1\170\30\2' >one.ciff
+printf '\10\30\1\20\1\10\1\170\5\15\42\4\20\2\10\0\30\2\20\1\12\1\141\7\30\2\22\1\170\10\0' >reversed.ciff
 printf '\2\30\2\0\2\10\1' >two.ciff
+printf '\4\10\1\20\2\3\12\1\141\3\12\1\141' >same_term.ciff
+{ cat one.ciff; printf '\0'; } >longer.ciff
 line='documents 1 lists 1 postings 1'
+
+# A list over 9000 documents in a row, 169,776 bytes, whose gaps are all 1.
+printf "$(awk '
+function byte(n) { size++; return sprintf("\\%03o", n) }
+function varint(n) { return n < 128 ? byte(n) : byte(n % 128 + 128) varint(int(n / 128)) }
+function number(field, n) { return n == 0 ? "" : byte(field * 8) varint(n) }
+function text(field, t) { size += length(t); return byte(field * 8 + 2) varint(length(t)) t }
+function framed(message, len) { len = size; return varint(len) message }
+BEGIN {
+    size = 0; header = number(2, 1) number(3, 9000); printf "%s", framed(header)
+    size = 0; list = text(1, "a") number(2, 9000) number(3, 9000)
+    for (doc = 0; doc < 9000; doc++) {
+        before = size; size = 0; posting = number(1, doc > 0) number(2, 1)
+        posting = framed(posting); size += before; list = list byte(34) posting
+    }
+    printf "%s", framed(list)
+    for (doc = 0; doc < 9000; doc++) {
+        size = 0; record = number(1, doc) text(2, "d" doc) number(3, 1); printf "%s", framed(record)
+    }
+}')" >many.ciff
 
 # row STATUS PRINTED WARNED [WORD..]: the program over these words, with standard output in the file of $out.
 out=printed
@@ -42,38 +66,74 @@ tell() {
     fi
 }
 
-# bytes NAME: those of the file, or what says that there is none.
-bytes() { if [ -e "$1" ]; then od -An -v -tx1 "$1"; else echo none; fi; }
+# bytes NAME: those of the file in hexadecimal digits.
+bytes() { od -An -v -tx1 "$1"; }
+
+# same NAME NAME: whether two files have the same bytes.
+same() { if cmp -s "$1" "$2"; then echo same; else echo different; fi; }
 
 one=$(bytes one.ciff)
 row 0 "$line" '' copy one.ciff out.ciff
 tell "$(bytes out.ciff)" "$one" 'out.ciff'
+row 0 "$line" '' copy reversed.ciff out.ciff
+tell "$(bytes out.ciff)" "$one" 'a canonical file of another spelling'
+row 0 'documents 2 lists 0 postings 0' '' copy two.ciff out.ciff
+tell "$(same two.ciff out.ciff)" same 'two documents'
 cp one.ciff same.ciff
 row 0 "$line" '' copy same.ciff same.ciff
 tell "$(bytes same.ciff)" "$one" 'a file copied onto itself'
-cp two.ciff longer.ciff
-cat one.ciff >>longer.ciff
-row 0 "$line" '' copy one.ciff longer.ciff
-tell "$(bytes longer.ciff)" "$one" 'a longer file written over'
+cp many.ciff over.ciff
+row 0 "$line" '' copy one.ciff over.ciff
+tell "$(bytes over.ciff)" "$one" 'a longer file written over'
+many='documents 9000 lists 1 postings 9000'
+row 0 "$many" '' copy many.ciff out.ciff
+tell "$(wc -c <many.ciff)" 169776 'the size of many.ciff'
+tell "$(same many.ciff out.ciff)" same 'a file of several pieces'
+birds=$top/crates/rgb/data/birds.ciff
+row 0 'documents 1000 lists 2522 postings 10723' '' copy "$birds" out.ciff
+tell "$(same "$birds" out.ciff)" same 'birds.ciff'
+
+row 0 "$line"$'\ngamma 1 delta 1 bytes 1' '' report one.ciff
+row 0 "$line"$'\ngamma 1 delta 1 bytes 1' '' report --workers 64 one.ciff
+row 0 "$many"$'\ngamma 9000 delta 9000 bytes 9000' '' report many.ciff --workers 01
+for workers in 1 2 3 64; do
+    row 0 $'documents 1000 lists 2522 postings 10723\ngamma 111349 delta 103412 bytes 14167' '' \
+        report "$birds" --workers "$workers"
+done
 
 row 2 '' usage
 row 2 '' usage Copy one.ciff no.ciff
 row 2 '' usage copy one.ciff
 row 2 '' usage copy one.ciff no.ciff more
 row 2 '' usage copy one.ciff no.ciff --depth 1
-row 2 '' usage copy one.ciff no.ciff a b c d e
+row 2 '' usage copy one.ciff no.ciff --workers 1
 row 2 '' usage copy one.ciff $'no\377.ciff'
-row 3 '' 'unread form' copy two.ciff no.ciff
+row 2 '' usage report one.ciff --workers 0
+row 2 '' usage report one.ciff --workers 65
+row 2 '' usage report one.ciff --workers
+row 3 '' 'malformed 0 CutShort' copy /dev/null no.ciff
+row 3 '' 'malformed 25 Trailing' copy longer.ciff no.ciff
+row 3 '' 'malformed 9 SameTerm' copy same_term.ciff no.ciff
+row 3 '' 'malformed 9 SameTerm' report same_term.ciff
+for size in 100000 169775; do
+    head -c "$size" many.ciff >cut.ciff
+    "$program" copy cut.ciff no.ciff 2>warned
+    tell "$? $(sed 's/[0-9][0-9]*/PLACE/' warned)" '3 malformed PLACE CutShort' "many.ciff cut to $size bytes"
+done
 row 4 '' 'read fault' copy missing.ciff no.ciff
+row 4 '' 'read fault' report missing.ciff
 row 4 '' 'read fault' copy . no.ciff
-tell "$(bytes no.ciff)" none 'no.ciff'
+row 4 '' 'read fault' report .
+tell "$([ -e no.ciff ] && echo there || echo none)" none 'no.ciff'
 
 row 5 '' 'write fault' copy one.ciff missing/no.ciff
 row 5 '' 'write fault' copy one.ciff .
 row 5 '' 'write fault' copy one.ciff /dev/full
+row 5 '' 'write fault' copy many.ciff /dev/full
 out=/dev/full
 row 5 '' 'write fault' copy one.ciff whole.ciff
 tell "$(bytes whole.ciff)" "$one" 'whole.ciff'
+row 5 '' 'write fault' report one.ciff
 
 echo "program: $passed passed, $failed failed"
 [ "$failed" -eq 0 ]

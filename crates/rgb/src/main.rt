@@ -19,5 +19,5 @@ fn words(rt: &(impl Env + AllocGlobal)) -> io::Result<Vec<String>> {
 fn main(rt: HostRuntime) -> ExitCode {
     let alloc = rt.alloc();
     let words = words(&rt).map_err(WordsFault::from);
-    ExitCode::from(run_words(alloc, words, &mut RealHost::new(rt)))
+    ExitCode::from(run_words(&rt, alloc, words, &mut RealHost::new(rt)))
 }

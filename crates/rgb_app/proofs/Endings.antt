@@ -3,28 +3,20 @@ use Rattle.std.proofs.Common.{◌≡◌, ◌⊎◌, ◌↔◌, ℕ, List, Option
 use Rattle.rgb_host.specs.Files.{Files, Rose}
 use Rattle.rgb_host.specs.Seen.{Seen}
 use Rattle.command_words.specs.Line.{Word}
-use Rattle.command_words.specs.Command.{Command, copy, report, IsCommand, Answers}
-use Rattle.rgb_app.specs.Served.{Spells, SpellsNone, SpellsOne}
-use Rattle.rgb_app.specs.Outcome.{Outcome, Written, Work, done, refused, missing, Accepts, writing, ComesTo}
+use Rattle.command_words.specs.Command.{Command, IsCommand, Answers}
+use Rattle.rgb_app.specs.Outcome.{Outcome, Written, Work, done, malformed, missing, ComesTo}
 use Rattle.rgb_app.specs.Status.{code_of, warning_of, status_of}
-use Rattle.rgb_app.specs.Ends.{delivered, DoesComeTo, with_written, Says, Runs, Warned, Ends, IsDisturbed, IsExact, IsCutOff, not_created, not_written, not_printed}
-use Rattle.rgb_app.specs.Reading.{OfFile, Explains, status_of_read}
+use Rattle.rgb_app.specs.Ends.{DoesComeTo, with_written, Says, SpellsNone, SpellsOne, Runs, Warned, Ends, IsDisturbed, IsExact, IsCutOff, not_created, not_written, not_printed}
 use Rattle.rgb_app.specs.Laws.{OneOutcome}
-use Rattle.rgb_app.proofs.Outcomes.{lacks_stops, refused_stops, copy_is_done}
-use Rattle.rgb_base.specs.Parts.{IndexParts}
-use Rattle.ciff_format.specs.Canonical.{bytes_of}
-use Rattle.rgb_app.specs.Text.{index_line}
-use Rattle.rgb_app.specs.declared.read.ReadError.{ReadError}
-use Rattle.rgb_app.specs.declared.read.ReadError.TheVariants.{Fault, Refused, OutOfMemory}
 use Rattle.rgb_app.specs.declared.status.Status.{Status}
-use Rattle.rgb_app.specs.declared.status.Status.TheVariants.{Done, Usage, Unread, ReadFault, WriteFault, Memory}
+use Rattle.rgb_app.specs.declared.status.Status.TheVariants.{Done, Usage, Malformed, ReadFault, WriteFault, Memory}
 
 -- ---- usage
 
 usage_code : (status : Status) (command : Command) (before after : Seen) → Says status command before after → code_of status ≡ 2 → ⊥
 usage_code Done command before after says is = absurd (cc)
 usage_code Usage command before after says is = says
-usage_code Unread command before after says is = absurd (cc)
+usage_code (Malformed place cause) command before after says is = absurd (cc)
 usage_code ReadFault command before after says is = absurd (cc)
 usage_code WriteFault command before after says is = absurd (cc)
 usage_code Memory command before after says is = absurd (cc)
@@ -59,12 +51,12 @@ disturbed_after : (outcome : Outcome) (before between after : Seen) → after.re
     → IsDisturbed outcome before between → IsDisturbed outcome before after
 disturbed_after (done work) before between after reads writes (inl d) = inl (subst (λ n. Rose before.read_faults n) (sym reads) d)
 disturbed_after (done work) before between after reads writes (inr d) = inr (subst (λ n. Rose before.write_faults n) (sym writes) d)
-disturbed_after refused before between after reads writes d = subst (λ n. Rose before.read_faults n) (sym reads) d
+disturbed_after (malformed place cause) before between after reads writes d = subst (λ n. Rose before.read_faults n) (sym reads) d
 disturbed_after missing before between after reads writes d = subst (λ n. Rose before.read_faults n) (sym reads) d
 
 read_disturbs : (outcome : Outcome) (before after : Seen) → Rose before.read_faults after.read_faults → IsDisturbed outcome before after
 read_disturbs (done work) before after rose = inl rose
-read_disturbs refused before after rose = rose
+read_disturbs (malformed place cause) before after rose = rose
 read_disturbs missing before after rose = rose
 
 written_counts : (file : Option Written) (host : Seen) → (with_written file host).write_faults ≡ host.write_faults
@@ -91,7 +83,7 @@ status_tells : OneOutcome → (status : Status) (command : Command) (outcome : O
     → (status ≡ status_of outcome) ⊎ (status ≡ Memory)
 status_tells law Done command outcome before after says told calm = inl (ap status_of (told_one law command before.files (done says.0) outcome says.1 told))
 status_tells law Usage command outcome before after says told calm = absurd says
-status_tells law Unread command outcome before after says told calm = inl (ap status_of (told_one law command before.files refused outcome says.0 told))
+status_tells law (Malformed place cause) command outcome before after says told calm = inl (ap status_of (told_one law command before.files (malformed place cause) outcome says.0 told))
 status_tells law ReadFault command outcome before after (inl failed) told calm = absurd (calm (read_disturbs outcome before after failed.rose))
 status_tells law ReadFault command outcome before after (inr says) told calm = inl (ap status_of (told_both law command before.files missing outcome says.0 told))
 status_tells law WriteFault command outcome before after says told calm =
@@ -99,28 +91,16 @@ status_tells law WriteFault command outcome before after says told calm =
     absurd (subst (λ o. ¬ IsDisturbed o before after) (sym same) calm (inr (cut_off_rose says.0 before after says.2)))
 status_tells law Memory command outcome before after says told calm = inr refl
 
-is_command : (words : List Word) (command : Command) → Spells words command → IsCommand words command
-is_command words (copy input output) s = s
-is_command words (report input workers) s = absurd s
-
 -- words spell one command at most, as their reading says
 pub answers_one : (words : List Word) (found : Option Command) → Answers words found → SpellsOne words
-answers_one words None none = λ a b p q. absurd (none a (is_command words a p))
-answers_one words (Some command) only = λ a b p q. only.only a (is_command words a p) ∙ sym (only.only b (is_command words b q))
-
--- no command, or one that isn't done
-pub no_command : (words : List Word) → Answers words None → SpellsNone words
-no_command words none command spells = none command (is_command words command spells)
-
-pub only_report : (words : List Word) (input : Word) (workers : ℕ) → Answers words (Some (report input workers)) → SpellsNone words
-only_report words input workers only (copy i o) spells = let e : copy i o ≡ report input workers = only.only (copy i o) spells in absurd (cc)
-only_report words input workers only (report i w) spells = spells
+answers_one words None none = λ a b p q. absurd (none a p)
+answers_one words (Some command) only = λ a b p q. only.only a p ∙ sym (only.only b q)
 
 code_tells : (number : ℕ) (status other : Status) → number ≡ code_of status → (status ≡ other) ⊎ (status ≡ Memory) → (number ≡ code_of other) ⊎ (number ≡ code_of Memory)
 code_tells number status other code (inl is) = inl (code ∙ ap code_of is)
 code_tells number status other code (inr is) = inr (code ∙ ap code_of is)
 
-runs_tell : OneOutcome → (status : Status) (words : List Word) (before after : Seen) (outcome : Outcome) (command : Command) → SpellsOne words → Runs status words before after → Spells words command
+runs_tell : OneOutcome → (status : Status) (words : List Word) (before after : Seen) (outcome : Outcome) (command : Command) → SpellsOne words → Runs status words before after → IsCommand words command
     → DoesComeTo command before outcome → ¬ IsDisturbed outcome before after → (status ≡ status_of outcome) ⊎ (status ≡ Memory)
 runs_tell law status words before after outcome command only (inl p) spells told calm = absurd (p.0 command spells)
 runs_tell law status words before after outcome command only (inr p) spells told calm =
@@ -130,21 +110,3 @@ pub exact_comes : OneOutcome → (words : List Word) (before after : Seen) (numb
 exact_comes law words before after number only e = λ command spells outcome told calm.
     code_tells number e.status (status_of outcome) e.code (runs_tell law e.status words before e.between outcome command only e.runs spells told
     (λ d. calm (disturbed_after outcome before e.between after (keeps_reads (warning_of e.status) e.between after e.warned) (keeps_writes (warning_of e.status) e.between after e.warned) d)))
-
--- ---- the steps of a copy
-
--- a file that isn't read
-pub explained : (error : ReadError) (input output : Word) (before after : Seen) → Explains error input before after → Says (status_of_read error) (copy input output) before after
-explained Fault input output before after (inl failed) = inl failed
-explained Fault input output before after (inr lacks) = inr (lacks_stops before.files input output lacks.0, lacks.1)
-explained Refused input output before after (bad, same) = (refused_stops before.files input output bad, same)
-explained OutOfMemory input output before after same = same
-
--- a file that is read, written again and told
-pub copied : (input output : Word) (index : IndexParts) (bytes text : List ℕ) (before read after : Seen) → OfFile before input (λ file. Accepts file index) → read ≡ before
-    → bytes ≡ bytes_of index → text ≡ index_line index → after ≡ delivered (writing output bytes text) read → Says Done (copy input output) before after
-copied input output index bytes text before read after holds same bytes-are text-is stands = (
-  writing output (bytes_of index) (index_line index),
-  copy_is_done before.files input output index holds,
-  stands ∙ ap (delivered (writing output bytes text)) same ∙ ap (λ b. delivered (writing output b text) before) bytes-are ∙ ap (λ t. delivered (writing output (bytes_of index) t) before) text-is,
-)

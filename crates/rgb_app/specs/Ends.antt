@@ -4,12 +4,11 @@ use Rattle.rgb_host.specs.Files.{Rose}
 use Rattle.rgb_host.specs.Seen.{Seen, with_file, with_print, with_warning}
 use Rattle.rgb_host.specs.Seen.{ReadFailed, WriteFailed, WarnedThenFailed, PrintedThenFailed}
 use Rattle.command_words.specs.Line.{Word}
-use Rattle.command_words.specs.Command.{Command}
-use Rattle.rgb_app.specs.Served.{Spells, SpellsNone}
-use Rattle.rgb_app.specs.Outcome.{Written, Work, Outcome, done, refused, missing, ComesTo}
+use Rattle.command_words.specs.Command.{Command, IsCommand}
+use Rattle.rgb_app.specs.Outcome.{Written, Work, Outcome, done, malformed, missing, ComesTo}
 use Rattle.rgb_app.specs.Status.{code_of, warning_of, status_of}
 use Rattle.rgb_app.specs.declared.status.Status.{Status}
-use Rattle.rgb_app.specs.declared.status.Status.TheVariants.{Done, Usage, Unread, ReadFault, WriteFault, Memory}
+use Rattle.rgb_app.specs.declared.status.Status.TheVariants.{Done, Usage, Malformed, ReadFault, WriteFault, Memory}
 
 -- ---- what stands after the work
 
@@ -29,7 +28,8 @@ pub data IsCutOff (work : Work) (before after : Seen) : Type 0 where
       → IsCutOff work before after
   -- the file holds the first n of its bytes
   not_written : (file : Written) → work.file ≡ Some file → (n : ℕ) → n ≤ length file.bytes
-      → WriteFailed (with_file file.name (take n file.bytes) before) after → IsCutOff work before after
+      → WriteFailed (with_file file.name (take n file.bytes) before) after
+      → IsCutOff work before after
   -- the file is whole, and the first of the text was printed
   not_printed : PrintedThenFailed work.text (with_written work.file before) after
       → IsCutOff work before after
@@ -48,7 +48,8 @@ DoesComeTo command host outcome = IsSomeAnd host.files (λ files. ComesTo comman
 abbrev pub Says : Status → Command → Seen → Seen → Type 0
 Says Done command before after =
     (work : Work) × MayComeTo command before (done work) × (after ≡ delivered work before)
-Says Unread command before after = MayComeTo command before refused × (after ≡ before)
+Says (Malformed place cause) command before after =
+    MayComeTo command before (malformed place cause) × (after ≡ before)
 Says ReadFault command before after =
     ReadFailed before after ⊎ (DoesComeTo command before missing × (after ≡ before))
 Says WriteFault command before after =
@@ -56,10 +57,18 @@ Says WriteFault command before after =
 Says Memory command before after = after ≡ before
 Says Usage command before after = ⊥
 
+-- the words spell no command
+abbrev pub SpellsNone : List Word → Type 0
+SpellsNone words = (command : Command) → ¬ IsCommand words command
+
+-- they spell one command at most
+abbrev pub SpellsOne : List Word → Type 0
+SpellsOne words = (one other : Command) → IsCommand words one → IsCommand words other → one ≡ other
+
 -- the words are refused with nothing done, or they are a command, which was run
 abbrev pub Runs : Status → List Word → Seen → Seen → Type 0
 Runs status words before after = (SpellsNone words × (status ≡ Usage) × (after ≡ before))
-    ⊎ ((command : Command) × Spells words command × Says status command before after)
+    ⊎ ((command : Command) × IsCommand words command × Says status command before after)
 
 -- the line, if there is one, was warned: all of it, or the first of it before a warning failed
 abbrev pub Warned : Option (List ℕ) → Seen → Seen → Type 0
@@ -81,11 +90,11 @@ pub record Ends (words : List Word) (before after : Seen) (number : ℕ) : Type 
 abbrev pub IsDisturbed : Outcome → Seen → Seen → Type 0
 IsDisturbed (done work) before after =
     Rose before.read_faults after.read_faults ⊎ Rose before.write_faults after.write_faults
-IsDisturbed refused before after = Rose before.read_faults after.read_faults
+IsDisturbed (malformed place cause) before after = Rose before.read_faults after.read_faults
 IsDisturbed missing before after = Rose before.read_faults after.read_faults
 
 -- where no failure was counted the number is that of the outcome, or memory ran out
 abbrev pub IsExact : List Word → Seen → Seen → ℕ → Type 0
-IsExact words before after number = (command : Command) → Spells words command
+IsExact words before after number = (command : Command) → IsCommand words command
     → (outcome : Outcome) → DoesComeTo command before outcome → ¬ IsDisturbed outcome before after
     → (number ≡ code_of (status_of outcome)) ⊎ (number ≡ code_of Memory)

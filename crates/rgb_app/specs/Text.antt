@@ -1,9 +1,15 @@
 -- What is printed and warned, byte by byte. Each line ends with a line feed.
 use Rattle.std.specs.Prelude.{ℕ, List, [], ◌∷◌, ◌++◌, length, codes, decimal}
 use Rattle.rgb_base.specs.Parts.{IndexParts, posting_count}
+use Rattle.ciff_format.specs.declared.cause.Cause.{Cause}
+use Rattle.ciff_format.specs.declared.cause.Cause.TheVariants.{CutShort, BadLength, BadField, BadText, BadCount, BadGap, SameTerm, BadDoc, Trailing, TooMuch}
+use Rattle.gap_report.specs.declared.costs.Costs.{Costs}
+use Rattle.gap_report.specs.Costs.{costs_of}
 
 abbrev pub line_of : List ℕ → List ℕ
 line_of text = text ++ 10 ∷ []
+
+-- ---- what is printed
 
 -- how many documents, lists and postings an index has
 abbrev pub index_words : ℕ → ℕ → ℕ → List ℕ
@@ -14,3 +20,32 @@ index_words documents lists postings =
 abbrev pub index_line : IndexParts → List ℕ
 index_line index =
     line_of (index_words (length index.documents) (length index.lists) (posting_count index.lists))
+
+-- what the gaps of an index cost: bits of the gamma and the delta code, and bytes of varints
+abbrev pub cost_words : Costs → List ℕ
+cost_words costs =
+    codes "gamma " ++ decimal costs.gamma ++ codes " delta " ++ decimal costs.delta
+    ++ codes " bytes " ++ decimal costs.bytes
+
+-- the index line, and the line of the costs
+abbrev pub report_text : IndexParts → List ℕ
+report_text index = index_line index ++ line_of (cost_words (costs_of index))
+
+-- ---- what is warned
+
+abbrev pub name_of : Cause → List ℕ
+name_of CutShort = codes "CutShort"
+name_of BadLength = codes "BadLength"
+name_of BadField = codes "BadField"
+name_of BadText = codes "BadText"
+name_of BadCount = codes "BadCount"
+name_of BadGap = codes "BadGap"
+name_of SameTerm = codes "SameTerm"
+name_of BadDoc = codes "BadDoc"
+name_of Trailing = codes "Trailing"
+name_of TooMuch = codes "TooMuch"
+
+-- where a file is refused, and why
+abbrev pub malformed_words : ℕ → Cause → List ℕ
+malformed_words place cause =
+    codes "malformed " ++ decimal place ++ codes " " ++ name_of cause

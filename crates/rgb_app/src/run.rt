@@ -1,104 +1,125 @@
 //! The top call: a command's work in its order.
-ghost use Rattle.std.specs.Prelude.{◌≡◌, ◌↔◌, ◌⊎◌, [], IfOk, IfErr, OnOk, OnErr, MatchResult, string_bytes, Err};
+ghost use Rattle.std.specs.Prelude.{◌≡◌, ◌<◌, ◌≤◌, ◌↔◌, IfOk, OnOk, OnErr, MatchResult, Err};
 ghost use Rattle.ciff_format.specs.Canonical.{bytes_of};
-ghost use Rattle.command_words.specs.Command.{copy, texts_of};
-ghost use Rattle.rgb_app.specs.Served.{SpellsNone, SpellsOne};
-ghost use Rattle.rgb_app.specs.Text.{index_line};
-ghost use Rattle.rgb_app.specs.Outcome.{writing};
+ghost use Rattle.command_words.specs.Command.{copy, report, texts_of};
+ghost use Rattle.rgb_app.specs.Outcome.{writing, printing};
 ghost use Rattle.rgb_app.specs.Status.{code_of, warning_of};
-ghost use Rattle.rgb_app.specs.Ends.{delivered, IsCutOff, Says, Runs, Warned, Ends, IsExact};
+ghost use Rattle.rgb_app.specs.Ends.{delivered, IsCutOff, Says, SpellsNone, SpellsOne, Runs, Warned, Ends, IsExact};
 
-use crate::encode::canonical;
 use crate::laws::exactly_one_outcome;
-use crate::line::index_line;
-use crate::read::read_index;
 use crate::status::Status;
+use crate::text::{index_line, report_text};
+use ciff_reader::read_index;
+use ciff_writer::{WriteError, write_index};
 use command_words::{Command, command_of};
-use rgb_base::{Index, OutOfMemory};
+use gap_report::Costs;
+use rgb_base::Index;
 use rgb_host::laws::created_then_appended;
-use rgb_host::{Failed, Host, print_all, warn_all, write_all};
+use rgb_host::{Failed, Host, print_all, warn_all};
 use std::alloc::Global;
 use std::io;
 use std::io::ErrorKind;
+use std::thread::Threads;
 
-/// What is written and printed.
-#[derive(Drop)]
-struct Copied {
-    bytes: Vec<u8>,
-    text: String,
-}
-
-// All that takes memory once the index is read.
-fn prepare(alloc: Global, index: &Index) -> Result<Copied, OutOfMemory>
-    ensures bytes { IfOk result (λ copied. copied.bytes.items ≡ bytes_of index.now) }
-    ensures text { IfOk result (λ copied. string_bytes copied.text ≡ index_line index.now) }
-{
-    let bytes = canonical(alloc, index)?;
-    let text = index_line(alloc, index)?;
-    Ok(Copied { bytes, text })
-}
-
-// Creates the file, writes the bytes and prints the text.
-fn deliver<H: Host>(host: &mut H, name: &str, bytes: &[u8], text: &[u8]) -> Result<(), Failed>
+/// Creates the file, writes the index to it and prints the text. It takes no memory.
+fn deliver<H: Host>(host: &mut H, name: &str, index: &Index, text: &str) -> Result<(), WriteError>
     ensures ok { OnOk result (H.seen host.new
-        ≡ delivered (writing name.now bytes.now text.now) (H.seen host.old)) }
-    ensures fault { OnErr result
-        (IsCutOff (writing name.now bytes.now text.now) (H.seen host.old) (H.seen host.new)) }
+        ≡ delivered (writing name.now (bytes_of index.now) text.now) (H.seen host.old)) }
+    ensures fault { OnErr result (IsCutOff (writing name.now (bytes_of index.now) text.now)
+        (H.seen host.old) (H.seen host.new)) }
 {
     created_then_appended();
     host.create(name)?;
-    write_all(host, name, bytes)?;
-    print_all(host, text)?;
+    write_index(index, host, name)?;
+    print_all(host, text.as_bytes())?;
     Ok(())
 }
 
-// Writes the index of one file in canonical form to another.
+/// Prints the text, where no file is written.
+fn show<H: Host>(host: &mut H, text: &str) -> Result<(), Failed>
+    ensures ok { OnOk result (H.seen host.new ≡ delivered (printing text.now) (H.seen host.old)) }
+    ensures fault { OnErr result
+        (IsCutOff (printing text.now) (H.seen host.old) (H.seen host.new)) }
+{
+    print_all(host, text.as_bytes())
+}
+
+/// Writes the index of one file in canonical form to another.
 fn copy<H: Host>(alloc: Global, host: &mut H, input: &str, output: &str) -> Result<(), Status>
     ensures says { MatchResult result
         (λ _. Says Status.Done (copy input.now output.now) (H.seen host.old) (H.seen host.new))
         (λ status. Says status (copy input.now output.now) (H.seen host.old) (H.seen host.new)) }
 {
     let index = read_index(alloc, host, input)?;
-    let copied = prepare(alloc, &index)?;
-    deliver(host, output, &copied.bytes, copied.text.as_bytes())?;
+    let text = index_line(alloc, &index)?;
+    deliver(host, output, &index, &text)?;
     Ok(())
 }
 
-// Warns the line of a status, as far as the host takes it, and answers the status's number.
+/// Prints what the gaps of a file's index cost, worked out by so many threads.
+fn report<R: Threads + Sync, H: Host>(
+    rt: &R,
+    alloc: Global,
+    host: &mut H,
+    input: &str,
+    workers: u32,
+) -> Result<(), Status>
+    requires some { 0 < workers }
+    requires most { workers ≤ 64 }
+    ensures says { MatchResult result
+        (λ _. Says Status.Done (report input.now workers) (H.seen host.old) (H.seen host.new))
+        (λ status. Says status (report input.now workers) (H.seen host.old) (H.seen host.new)) }
+{
+    let index = read_index(alloc, host, input)?;
+    let costs = Costs::of(rt, &index, workers)?;
+    let text = report_text(alloc, &index, costs)?;
+    show(host, &text)?;
+    Ok(())
+}
+
+/// Warns the line of a status, as far as the host takes it, and answers the status's number.
 fn end<H: Host>(host: &mut H, status: Status) -> u8
     ensures code { result ≡ code_of status }
     ensures warned { Warned (warning_of status) (H.seen host.old) (H.seen host.new) }
 {
     if let Some(line) = status.warning() {
-        let _ = warn_all(host, line.as_bytes());
+        let _ = warn_all(host, line.as_str().as_bytes());
     }
     status.code()
 }
 
-// Does the command that the words spell, and says how it ended.
-fn work<H: Host>(alloc: Global, words: &[String], host: &mut H) -> Status
+/// Does the command that the words spell, and says how it ended.
+fn work<R: Threads + Sync, H: Host>(rt: &R, alloc: Global, words: &[String], host: &mut H) -> Status
     ensures runs { Runs result (texts_of words.now) (H.seen host.old) (H.seen host.new) }
     ensures one { SpellsOne (texts_of words.now) }
 {
-    match command_of(words) {
-        None => Status::Usage,
-        // Refused until its costs can be told.
-        Some(Command::Report { .. }) => Status::Usage,
-        Some(Command::Copy { input, output }) => match copy(alloc, host, input, output) {
-            Ok(()) => Status::Done,
-            Err(status) => status,
-        },
+    let Some(command) = command_of(words) else {
+        return Status::Usage;
+    };
+    let done = match command {
+        Command::Copy { input, output } => copy(alloc, host, input, output),
+        Command::Report { input, workers } => report(rt, alloc, host, input, workers),
+    };
+    match done {
+        Ok(()) => Status::Done,
+        Err(status) => status,
     }
 }
 
-/// Does the command that the words spell, and answers the status that the program ends with.
-pub fn run_plain<H: Host>(alloc: Global, words: &[String], host: &mut H) -> u8
+/// Does the command that the words spell, and answers the status that the program ends with. `rt`
+/// makes the threads of commands that have workers.
+pub fn run_plain<R: Threads + Sync, H: Host>(
+    rt: &R,
+    alloc: Global,
+    words: &[String],
+    host: &mut H,
+) -> u8
     ensures ends { Ends (texts_of words.now) (H.seen host.old) (H.seen host.new) result }
     ensures usage { (result ≡ 2) ↔ SpellsNone (texts_of words.now) }
     ensures exact { IsExact (texts_of words.now) (H.seen host.old) (H.seen host.new) result }
 {
     exactly_one_outcome();
-    let status = work(alloc, words, host);
+    let status = work(rt, alloc, words, host);
     end(host, status)
 }
 
@@ -128,7 +149,12 @@ impl From<io::Error> for WordsFault {
 }
 
 /// The same from the words as the system gives them. Words that are no text are no command.
-pub fn run_words<H: Host>(alloc: Global, words: Result<Vec<String>, WordsFault>, host: &mut H) -> u8
+pub fn run_words<R: Threads + Sync, H: Host>(
+    rt: &R,
+    alloc: Global,
+    words: Result<Vec<String>, WordsFault>,
+    host: &mut H,
+) -> u8
     ensures ends { IfOk words (λ words.
         Ends (texts_of words.items) (H.seen host.old) (H.seen host.new) result) }
     ensures exact { IfOk words (λ words.
@@ -140,7 +166,7 @@ pub fn run_words<H: Host>(alloc: Global, words: Result<Vec<String>, WordsFault>,
         → (result ≡ 6) × Warned (warning_of Status.Memory) (H.seen host.old) (H.seen host.new) }
 {
     match words {
-        Ok(words) => run_plain(alloc, &words, host),
+        Ok(words) => run_plain(rt, alloc, &words, host),
         Err(WordsFault::NotText) => end(host, Status::Usage),
         Err(WordsFault::OutOfMemory) => end(host, Status::Memory),
     }

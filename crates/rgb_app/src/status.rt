@@ -1,9 +1,13 @@
 //! What a command ends with.
-ghost use Rattle.std.specs.Prelude.{◌≡◌};
-ghost use Rattle.std.specs.Option.{option_copied};
+ghost use Rattle.std.specs.Prelude.{◌≡◌, ◌<◌, ◌≤◌, length, option_map};
+ghost use Rattle.rgb_app.specs.Text.{line_of, name_of, malformed_words};
 ghost use Rattle.rgb_app.specs.Status.{code_of, warning_of};
 
-use crate::read::ReadError;
+use arrayvec::ArrayString;
+use ciff_format::Cause;
+use ciff_reader::ReadError;
+use ciff_writer::WriteError;
+use itoa::Buffer;
 use rgb_base::OutOfMemory;
 use rgb_host::Failed;
 
@@ -12,7 +16,8 @@ use rgb_host::Failed;
 pub enum Status {
     Done,
     Usage,
-    Unread,
+    /// A file is refused: the byte at which the length of its first bad message starts, and why.
+    Malformed { place: u64, cause: Cause },
     ReadFault,
     WriteFault,
     Memory,
@@ -20,14 +25,14 @@ pub enum Status {
 
 impl From<ReadError> for Status {
     ghost use Rattle.std.specs.Prelude.{◌≡◌};
-    ghost use Rattle.rgb_app.specs.Reading.{status_of_read};
+    ghost use Rattle.rgb_app.specs.Status.{status_of_read};
 
     ghost from_gives = { λ error status. status ≡ status_of_read error };
 
     fn from(error: ReadError) -> Self {
         match error {
             ReadError::Fault => Status::ReadFault,
-            ReadError::Refused => Status::Unread,
+            ReadError::Malformed { place, cause } => Status::Malformed { place, cause },
             ReadError::OutOfMemory => Status::Memory,
         }
     }
@@ -44,6 +49,17 @@ impl From<OutOfMemory> for Status {
     }
 }
 
+impl From<WriteError> for Status {
+    ghost use Rattle.std.specs.Prelude.{◌≡◌};
+    ghost use Rattle.rgb_app.specs.declared.status.Status.TheVariants.{WriteFault};
+
+    ghost from_gives = { λ _ status. status ≡ WriteFault };
+
+    fn from(_: WriteError) -> Self {
+        Status::WriteFault
+    }
+}
+
 impl From<Failed> for Status {
     ghost use Rattle.std.specs.Prelude.{◌≡◌};
     ghost use Rattle.rgb_app.specs.declared.status.Status.TheVariants.{WriteFault};
@@ -55,32 +71,79 @@ impl From<Failed> for Status {
     }
 }
 
+/// A warned line. The longest has 41 bytes: the words, twenty digits and a cause of nine letters.
+pub(crate) type Line = ArrayString<64>;
+
+/// The cause's name, as it is warned.
+fn name_of(cause: Cause) -> &'static str
+    ensures name { result.now ≡ name_of cause }
+    ensures short { length result.now < 10 }
+{
+    match cause {
+        Cause::CutShort => "CutShort",
+        Cause::BadLength => "BadLength",
+        Cause::BadField => "BadField",
+        Cause::BadText => "BadText",
+        Cause::BadCount => "BadCount",
+        Cause::BadGap => "BadGap",
+        Cause::SameTerm => "SameTerm",
+        Cause::BadDoc => "BadDoc",
+        Cause::Trailing => "Trailing",
+        Cause::TooMuch => "TooMuch",
+    }
+}
+
+/// The line of these words.
+fn line_of(words: &str) -> Line
+    requires { length words.now < 64 }
+    ensures { result.bytes ≡ line_of words.now }
+{
+    let mut line = Line::new();
+    line.push_str(words);
+    line.push_str("\n");
+    line
+}
+
+/// The line of a file that is refused.
+fn malformed_line(place: u64, cause: Cause) -> Line
+    ensures { result.bytes ≡ line_of (malformed_words place cause) }
+{
+    let mut digits = Buffer::new();
+    let mut line = Line::new();
+    line.push_str("malformed ");
+    line.push_str(digits.format(place));
+    line.push_str(" ");
+    line.push_str(name_of(cause));
+    line.push_str("\n");
+    line
+}
+
 impl Status {
     /// The number that the program ends with.
-    pub fn code(self) -> u8
+    pub(crate) fn code(self) -> u8
         ensures code { result ≡ code_of self }
     {
         match self {
             Status::Done => 0,
             Status::Usage => 2,
-            Status::Unread => 3,
+            Status::Malformed { .. } => 3,
             Status::ReadFault => 4,
             Status::WriteFault => 5,
             Status::Memory => 6,
         }
     }
 
-    /// The line on standard error, with its line feed.
-    pub fn warning(self) -> Option<&'static str>
-        ensures line { option_copied result ≡ warning_of self }
+    /// The line on standard error, if there is one. It takes no memory.
+    pub(crate) fn warning(self) -> Option<Line>
+        ensures line { option_map (λ line. line.bytes) result ≡ warning_of self }
     {
         match self {
             Status::Done => None,
-            Status::Usage => Some("usage\n"),
-            Status::Unread => Some("unread form\n"),
-            Status::ReadFault => Some("read fault\n"),
-            Status::WriteFault => Some("write fault\n"),
-            Status::Memory => Some("memory\n"),
+            Status::Usage => Some(line_of("usage")),
+            Status::Malformed { place, cause } => Some(malformed_line(place, cause)),
+            Status::ReadFault => Some(line_of("read fault")),
+            Status::WriteFault => Some(line_of("write fault")),
+            Status::Memory => Some(line_of("memory")),
         }
     }
 }

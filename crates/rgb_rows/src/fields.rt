@@ -3,6 +3,7 @@
 use crate::runs::{ALL_WELL, copy};
 use std::alloc::{AllocError, Global};
 use std::test::Fail;
+use std::thread::Threads;
 
 /// All eight fields of the header with different values: version 7, one list, one document, 300 lists and
 /// -1 documents and 2^40 terms of the whole collection, an average of 1.5, and `ab`. Then the term `t` with
@@ -24,8 +25,12 @@ const DOCUMENT: &[u8] = b"documents 1 lists 0 postings 0\n";
 const BOTH: &[u8] = b"documents 1 lists 1 postings 1\n";
 
 // Whether the file comes out unchanged, and this line is printed.
-fn is_copied(alloc: Global, bytes: &[u8], line: &[u8]) -> Result<bool, Fail> {
-    let (status, host) = copy(alloc, bytes, ALL_WELL)?;
+fn is_copied<R: Threads + Sync + AllocGlobal>(
+    rt: &R,
+    bytes: &[u8],
+    line: &[u8],
+) -> Result<bool, Fail> {
+    let (status, host) = copy(rt, bytes, ALL_WELL)?;
     Ok(
         status == 0
             && host.file("out") == Some(bytes)
@@ -42,7 +47,7 @@ fn other_values_and_counts(rt: HostRuntime) -> Result<(), Fail> {
         (&[0x02, 0x10, 0x01, 0x00], LIST),
     ];
     for (bytes, line) in rows {
-        assert!(rt; is_copied(rt.alloc(), bytes, line)?, "{bytes:?}");
+        assert!(rt; is_copied(&rt, bytes, line)?, "{bytes:?}");
     }
     Ok(())
 }
@@ -98,7 +103,7 @@ fn long_texts(rt: HostRuntime) -> Result<(), Fail> {
     ];
     for (front, len, line) in rows {
         let bytes = with_text(rt.alloc(), front, len)?;
-        assert!(rt; is_copied(rt.alloc(), &bytes, line)?, "{front:?}");
+        assert!(rt; is_copied(&rt, &bytes, line)?, "{front:?}");
     }
     Ok(())
 }

@@ -4,6 +4,7 @@ use rgb_host::{FileMap, MemoryHost, Numbers};
 use std::alloc::Global;
 use std::collections::BTreeMap;
 use std::test::Fail;
+use std::thread::Threads;
 
 /// Which calls of the host fail, and how many bytes a call gives or takes at most.
 #[derive(Clone, Copy)]
@@ -21,10 +22,23 @@ pub const ALL_WELL: Setting<'static> = Setting {
 };
 
 /// One list of one posting, and one document: 25 bytes.
-pub const ONE: [u8; 25] = [
-    0x06, 0x08, 0x01, 0x10, 0x01, 0x18, 0x01, 0x0b, 0x0a, 0x01, 0x61, 0x10, 0x01, 0x18, 0x02, 0x22,
-    0x02, 0x10, 0x02, 0x05, 0x12, 0x01, 0x78, 0x18, 0x02,
-];
+pub const ONE: &str = "06 08 01 10 01 18 01 0b 0a 01 61 10 01 18 02 22 02 10 02 05 12 01 78 18 02";
+
+/// Two lists of three postings, and six documents: 109 bytes.
+pub const SIX: &str =
+    "06 08 01 10 02 18 06 17 0a 01 61 10 03 18 03 22 02 10 01 22 04 08 01 10 01 22 \
+    04 08 02 10 01 19 0a 01 62 10 03 18 03 22 04 08 02 10 01 22 04 08 02 10 01 22 04 08 01 10 01 06 \
+    12 02 64 30 18 01 08 08 01 12 02 64 31 18 01 08 08 02 12 02 64 32 18 01 08 08 03 12 02 64 33 18 \
+    01 08 08 04 12 02 64 34 18 01 08 08 05 12 02 64 35 18 01";
+
+/// The bytes that are written as two hexadecimal digits each.
+pub fn bytes_of(alloc: Global, text: &str) -> Result<Vec<u8>, Fail> {
+    let mut bytes = Vec::new(alloc);
+    for digits in text.split_whitespace() {
+        bytes.push(u8::from_str_radix(digits, 16)?)?;
+    }
+    Ok(bytes)
+}
 
 pub fn words_of(alloc: Global, words: &[&str]) -> Result<Vec<String>, Fail> {
     let mut all = Vec::new(alloc);
@@ -55,14 +69,50 @@ pub fn host_with(
 }
 
 /// The status of a command over a host.
-pub fn status_of(alloc: Global, words: &[&str], host: &mut MemoryHost) -> Result<u8, Fail> {
-    let words = words_of(alloc, words)?;
-    Ok(run_plain(alloc, &words, host))
+pub fn status_of<R: Threads + Sync + AllocGlobal>(
+    rt: &R,
+    words: &[&str],
+    host: &mut MemoryHost,
+) -> Result<u8, Fail> {
+    let words = words_of(rt.alloc(), words)?;
+    Ok(run_plain(rt, rt.alloc(), &words, host))
 }
 
-/// The status of `copy in out` over a host whose file `in` has these bytes, and that host.
-pub fn copy(alloc: Global, bytes: &[u8], setting: Setting<'_>) -> Result<(u8, MemoryHost), Fail> {
-    let mut host = host_with(alloc, "in", bytes, setting)?;
-    let status = status_of(alloc, &["copy", "in", "out"], &mut host)?;
+/// The status of a command over a host whose file `in` has these bytes, and that host.
+pub fn run<R: Threads + Sync + AllocGlobal>(
+    rt: &R,
+    words: &[&str],
+    bytes: &[u8],
+    setting: Setting<'_>,
+) -> Result<(u8, MemoryHost), Fail> {
+    let mut host = host_with(rt.alloc(), "in", bytes, setting)?;
+    let status = status_of(rt, words, &mut host)?;
     Ok((status, host))
+}
+
+/// `copy in out` over such a host.
+pub fn copy<R: Threads + Sync + AllocGlobal>(
+    rt: &R,
+    bytes: &[u8],
+    setting: Setting<'_>,
+) -> Result<(u8, MemoryHost), Fail> {
+    run(rt, &["copy", "in", "out"], bytes, setting)
+}
+
+/// Whether a command over these bytes ends with status 3 and warns this line, and nothing is created or
+/// printed.
+pub fn is_refused<R: Threads + Sync + AllocGlobal>(
+    rt: &R,
+    words: &[&str],
+    bytes: &[u8],
+    line: &str,
+) -> Result<bool, Fail> {
+    let (status, host) = run(rt, words, bytes, ALL_WELL)?;
+    Ok(
+        status == 3
+            && host.warned() == line.as_bytes()
+            && host.printed().is_empty()
+            && host.file("out").is_none()
+            && host.file("in") == Some(bytes),
+    )
 }

@@ -1,5 +1,5 @@
 //! Rows in which warnings fail: the status and everything else stay as they are.
-use crate::runs::{ALL_WELL, ONE, Setting, host_with, status_of, words_of};
+use crate::runs::{ALL_WELL, ONE, Setting, bytes_of, host_with, status_of, words_of};
 use rgb_app::{WordsFault, run_words};
 use rgb_host::MemoryHost;
 use std::alloc::Global;
@@ -18,47 +18,48 @@ fn failing(alloc: Global, bytes: &[u8], failing_writes: &[u64]) -> Result<Memory
 #[test]
 fn a_failing_warning_for_each_status(rt: HostRuntime) -> Result<(), Fail> {
     // The words, the bytes of `in`, the writes that fail, the status, and what was warned by then.
-    let rows: [(&[&str], &[u8], &[u64], u8, &[u8]); 8] = [
-        (&["copy", "in"], &ONE, &[1], 2, b""),
-        (&["copy", "in"], &ONE, &[2], 2, b"usag"),
-        (&["copy", "in", "out"], &[], &[1], 3, b""),
-        (&["copy", "in", "out"], &[], &[3], 3, b"unread f"),
-        (&["copy", "no", "out"], &ONE, &[1], 4, b""),
-        (&["copy", "no", "out"], &ONE, &[2], 4, b"read"),
+    let rows: [(&[&str], &str, &[u64], u8, &[u8]); 8] = [
+        (&["copy", "in"], ONE, &[1], 2, b""),
+        (&["copy", "in"], ONE, &[2], 2, b"usag"),
+        (&["copy", "in", "out"], "", &[1], 3, b""),
+        (&["copy", "in", "out"], "", &[3], 3, b"malforme"),
+        (&["copy", "no", "out"], ONE, &[1], 4, b""),
+        (&["copy", "no", "out"], ONE, &[2], 4, b"read"),
         // Call 1 creates.
-        (&["copy", "in", "out"], &ONE, &[1, 2], 5, b""),
-        (&["copy", "in", "out"], &ONE, &[1, 4], 5, b"write fa"),
+        (&["copy", "in", "out"], ONE, &[1, 2], 5, b""),
+        (&["copy", "in", "out"], ONE, &[1, 4], 5, b"write fa"),
     ];
-    for (words, bytes, writes, status, warned) in rows {
-        let mut host = failing(rt.alloc(), bytes, writes)?;
-        assert_eq!(rt;
-            status_of(rt.alloc(), words, &mut host)?,
-            status,
-            "{words:?}"
-        );
+    for (words, text, writes, status, warned) in rows {
+        let bytes = bytes_of(rt.alloc(), text)?;
+        let mut host = failing(rt.alloc(), &bytes, writes)?;
+        assert_eq!(rt; status_of(&rt, words, &mut host)?, status, "{words:?}");
         assert!(rt; host.warned() == warned, "{words:?}");
         assert!(rt; host.printed().is_empty());
         assert!(rt; host.file("out").is_none());
-        assert!(rt; host.file("in") == Some(bytes));
+        assert!(rt; host.file("in") == Some(bytes.as_slice()));
     }
     Ok(())
 }
 
 #[test]
 fn words_that_the_system_does_not_give(rt: HostRuntime) -> Result<(), Fail> {
-    let rows: [(WordsFault, u8, &[u8]); 2] = [
-        (WordsFault::NotText, 2, b"usage\n"),
-        (WordsFault::OutOfMemory, 6, b"memory\n"),
+    let one = bytes_of(rt.alloc(), ONE)?;
+    // The status, the writes that fail, and what was warned by then.
+    let rows: [(WordsFault, u8, &[u64], &[u8]); 4] = [
+        (WordsFault::NotText, 2, &[], b"usage\n"),
+        (WordsFault::NotText, 2, &[1], b""),
+        (WordsFault::OutOfMemory, 6, &[], b"memory\n"),
+        (WordsFault::OutOfMemory, 6, &[2], b"memo"),
     ];
-    for (fault, status, warned) in rows {
-        let mut host = host_with(rt.alloc(), "in", &ONE, ALL_WELL)?;
-        assert_eq!(rt; run_words(rt.alloc(), Err(fault), &mut host), status);
+    for (fault, status, writes, warned) in rows {
+        let mut host = failing(rt.alloc(), &one, writes)?;
+        assert_eq!(rt; run_words(&rt, rt.alloc(), Err(fault), &mut host), status);
         assert!(rt; host.warned() == warned);
         assert!(rt; host.printed().is_empty());
     }
     let words = words_of(rt.alloc(), &["copy", "in", "out"])?;
-    let mut host = host_with(rt.alloc(), "in", &ONE, ALL_WELL)?;
-    assert_eq!(rt; run_words(rt.alloc(), Ok(words), &mut host), 0);
-    assert!(rt; host.file("out") == Some(ONE.as_slice()));
+    let mut host = host_with(rt.alloc(), "in", &one, ALL_WELL)?;
+    assert_eq!(rt; run_words(&rt, rt.alloc(), Ok(words), &mut host), 0);
+    assert!(rt; host.file("out") == Some(one.as_slice()));
     Ok(())
 }

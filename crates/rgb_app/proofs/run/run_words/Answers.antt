@@ -1,7 +1,6 @@
 use Rattle.std.proofs.Common.{◌≡◌, ◌↔◌, IfOk, sym, subst}
 use Rattle.command_words.specs.Command.{texts_of}
-use Rattle.rgb_app.specs.Served.{SpellsNone}
-use Rattle.rgb_app.specs.Ends.{IsExact}
+use Rattle.rgb_app.specs.Ends.{IsExact, SpellsNone}
 use Rattle.rgb_app.proofs.run.run_words.Goals as goal
 
 pub returns-in-Ok-clause-exact : goal.returns-in-Ok-clause-exact

@@ -1,0 +1,93 @@
+-- What the steps of each command come to.
+use Rattle.std.proofs.Common.{◌≡◌, ℕ, ◌<◌, ◌≤◌, List, [], ◌∷◌, Option, Some, None, IsSomeAnd, IfSome, refl, sym, ap, subst, ◌∙◌, inl, inr, arith}
+use Rattle.std.specs.FinMap.{get}
+use Rattle.rgb_base.specs.Parts.{IndexParts}
+use Rattle.rgb_host.specs.Files.{Files, IsMissing}
+use Rattle.rgb_host.specs.Seen.{Seen}
+use Rattle.ciff_format.specs.Canonical.{bytes_of}
+use Rattle.ciff_format.specs.Accepted.{Accepted}
+use Rattle.ciff_format.specs.Refused.{Refused}
+use Rattle.ciff_format.specs.declared.cause.Cause.{Cause}
+use Rattle.ciff_reader.specs.Reading.{OfFile, Explains}
+use Rattle.ciff_reader.specs.declared.error.ReadError.{ReadError}
+use Rattle.ciff_reader.specs.declared.error.ReadError.TheVariants as errors
+use Rattle.command_words.specs.Line.{Word, ComesTo as OptionComesTo}
+use Rattle.command_words.specs.Command.{Command, copy, report, workers_option, IsCommand}
+use Rattle.rgb_app.specs.Text.{index_line, report_text}
+use Rattle.rgb_app.specs.Outcome.{Input, index_file, inputs_of, done, malformed, missing, writing, printing, FirstStops, ComesTo}
+use Rattle.rgb_app.specs.Status.{status_of_read}
+use Rattle.rgb_app.specs.Ends.{MayComeTo, delivered, IsCutOff, Says}
+use Rattle.rgb_app.specs.declared.status.Status.TheVariants.{Done, WriteFault}
+
+-- ---- the first file that a command reads
+
+first_is_missing : (told : Option Files) (command : Command) (input : Word) (rest : List Input) → inputs_of command ≡ index_file input ∷ rest → IsMissing told input
+    → IsSomeAnd told (λ files. ComesTo command files missing)
+first_is_missing None command input rest is lacks = lacks
+first_is_missing (Some files) command input rest is lacks = subst (λ inputs. FirstStops files inputs missing) (sym is) (inl lacks)
+
+first_is_malformed : (told : Option Files) (command : Command) (input : Word) (rest : List Input) (place : ℕ) (cause : Cause) → inputs_of command ≡ index_file input ∷ rest
+    → IfSome told (λ files. IsSomeAnd (get files input) (λ file. Refused file place cause)) → IfSome told (λ files. ComesTo command files (malformed place cause))
+first_is_malformed None command input rest place cause is bad = tt
+first_is_malformed (Some files) command input rest place cause is bad = subst (λ inputs. FirstStops files inputs (malformed place cause)) (sym is) (inl bad)
+
+-- it isn't read
+pub explained : (error : ReadError) (command : Command) (input : Word) (rest : List Input) (before after : Seen) → inputs_of command ≡ index_file input ∷ rest → Explains error input before after
+    → Says (status_of_read error) command before after
+explained errors.Fault command input rest before after is (inl failed) = inl failed
+explained errors.Fault command input rest before after is (inr lacks) = inr (first_is_missing before.files command input rest is lacks.0, lacks.1)
+explained (errors.Malformed place cause) command input rest before after is (bad, same) = (first_is_malformed before.files command input rest place cause is bad, same)
+explained errors.OutOfMemory command input rest before after is same = same
+
+-- ---- copy
+
+copy_comes : (told : Option Files) (input output : Word) (index : IndexParts) → IfSome told (λ files. IsSomeAnd (get files input) (λ file. Accepted file index))
+    → IfSome told (λ files. ComesTo (copy input output) files (done (writing output (bytes_of index) (index_line index))))
+copy_comes None input output index holds = tt
+copy_comes (Some files) input output index holds = (index, holds, refl)
+
+copy_work : (input output : Word) (index : IndexParts) (text : List ℕ) (before : Seen) → OfFile before input (λ file. Accepted file index) → text ≡ index_line index
+    → MayComeTo (copy input output) before (done (writing output (bytes_of index) text))
+copy_work input output index text before holds is =
+    subst (λ t. MayComeTo (copy input output) before (done (writing output (bytes_of index) t))) (sym is) (copy_comes before.files input output index holds)
+
+pub copied : (input output : Word) (index : IndexParts) (text : List ℕ) (before read after : Seen) → OfFile before input (λ file. Accepted file index) → text ≡ index_line index → read ≡ before
+    → after ≡ delivered (writing output (bytes_of index) text) read → Says Done (copy input output) before after
+copied input output index text before read after holds is same stands =
+    (writing output (bytes_of index) text, copy_work input output index text before holds is, stands ∙ ap (delivered (writing output (bytes_of index) text)) same)
+
+pub copy_cut : (input output : Word) (index : IndexParts) (text : List ℕ) (before read after : Seen) → OfFile before input (λ file. Accepted file index) → text ≡ index_line index → read ≡ before
+    → IsCutOff (writing output (bytes_of index) text) read after → Says WriteFault (copy input output) before after
+copy_cut input output index text before read after holds is same cut =
+    (writing output (bytes_of index) text, copy_work input output index text before holds is, subst (λ host. IsCutOff (writing output (bytes_of index) text) host after) same cut)
+
+-- ---- report
+
+report_comes : (told : Option Files) (input : Word) (workers : ℕ) (index : IndexParts) → IfSome told (λ files. IsSomeAnd (get files input) (λ file. Accepted file index))
+    → IfSome told (λ files. ComesTo (report input workers) files (done (printing (report_text index))))
+report_comes None input workers index holds = tt
+report_comes (Some files) input workers index holds = (index, holds, refl)
+
+report_work : (input : Word) (workers : ℕ) (index : IndexParts) (text : List ℕ) (before : Seen) → OfFile before input (λ file. Accepted file index) → text ≡ report_text index
+    → MayComeTo (report input workers) before (done (printing text))
+report_work input workers index text before holds is =
+    subst (λ t. MayComeTo (report input workers) before (done (printing t))) (sym is) (report_comes before.files input workers index holds)
+
+pub reported : (input : Word) (workers : ℕ) (index : IndexParts) (text : List ℕ) (before read after : Seen) → OfFile before input (λ file. Accepted file index) → text ≡ report_text index → read ≡ before
+    → after ≡ delivered (printing text) read → Says Done (report input workers) before after
+reported input workers index text before read after holds is same stands =
+    (printing text, report_work input workers index text before holds is, stands ∙ ap (delivered (printing text)) same)
+
+pub report_cut : (input : Word) (workers : ℕ) (index : IndexParts) (text : List ℕ) (before read after : Seen) → OfFile before input (λ file. Accepted file index) → text ≡ report_text index → read ≡ before
+    → IsCutOff (printing text) read after → Says WriteFault (report input workers) before after
+report_cut input workers index text before read after holds is same cut =
+    (printing text, report_work input workers index text before holds is, subst (λ host. IsCutOff (printing text) host after) same cut)
+
+-- the workers lie in the option's range
+in_range : (values : List Word) (workers : ℕ) → OptionComesTo workers_option values workers → (0 < workers) × (workers ≤ 64)
+in_range [] workers is = (omega (arith, is), omega (arith, is))
+in_range (word ∷ []) workers means = (omega (arith, means.1), means.2)
+in_range (word ∷ other ∷ others) workers means = absurd means
+
+pub workers_in_range : (words : List Word) (input : Word) (workers : ℕ) → IsCommand words (report input workers) → (0 < workers) × (workers ≤ 64)
+workers_in_range words input workers line = in_range _ workers line.options.0

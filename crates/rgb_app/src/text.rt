@@ -1,0 +1,76 @@
+//! The texts that are printed.
+ghost use Rattle.std.specs.Prelude.{◌≡◌, length, Some, IfOk, string_bytes};
+ghost use Rattle.rgb_base.specs.Parts.{posting_count};
+ghost use Rattle.gap_report.specs.Costs.{costs_of};
+ghost use Rattle.rgb_app.specs.Text.{index_words, index_line, cost_words, report_text};
+
+use gap_report::Costs;
+use rgb_base::{Index, OutOfMemory};
+use std::alloc::Global;
+use std::fmt;
+
+/// How many documents, lists and postings there are.
+#[derive(Clone, Copy)]
+struct IndexWords {
+    documents: u32,
+    lists: u32,
+    postings: u32,
+}
+
+impl fmt::Display for IndexWords {
+    ghost output = { λ words. Some (index_words words.documents words.lists words.postings) };
+
+    fn fmt<W: fmt::Write>(&self, f: &mut fmt::Formatter<W>) -> fmt::Result {
+        let documents = self.documents;
+        let lists = self.lists;
+        let postings = self.postings;
+        write!(f, "documents {documents} lists {lists} postings {postings}")
+    }
+}
+
+/// What the gaps of an index cost.
+#[derive(Clone, Copy)]
+struct CostWords {
+    costs: Costs,
+}
+
+impl fmt::Display for CostWords {
+    ghost output = { λ words. Some (cost_words words.costs) };
+
+    fn fmt<W: fmt::Write>(&self, f: &mut fmt::Formatter<W>) -> fmt::Result {
+        let gamma = self.costs.gamma;
+        let delta = self.costs.delta;
+        let bytes = self.costs.bytes;
+        write!(f, "gamma {gamma} delta {delta} bytes {bytes}")
+    }
+}
+
+fn words_of(index: &Index) -> IndexWords
+    ensures documents { result.documents ≡ length index.now.documents }
+    ensures lists { result.lists ≡ length index.now.lists }
+    ensures postings { result.postings ≡ posting_count index.now.lists }
+{
+    IndexWords {
+        documents: index.documents(),
+        lists: index.lists(),
+        postings: index.total_postings(),
+    }
+}
+
+/// The text of `copy`: the index line.
+pub(crate) fn index_line(alloc: Global, index: &Index) -> Result<String, OutOfMemory>
+    ensures line { IfOk result (λ text. string_bytes text ≡ index_line index.now) }
+{
+    let line = words_of(index);
+    Ok(format!(in alloc; "{line}\n")?)
+}
+
+/// The text of `report`: the index line, and the line of these costs.
+pub(crate) fn report_text(alloc: Global, index: &Index, costs: Costs) -> Result<String, OutOfMemory>
+    requires { costs ≡ costs_of index.now }
+    ensures text { IfOk result (λ text. string_bytes text ≡ report_text index.now) }
+{
+    let line = words_of(index);
+    let costs = CostWords { costs };
+    Ok(format!(in alloc; "{line}\n{costs}\n")?)
+}
