@@ -40,7 +40,8 @@ pub record AreTables (order places : List ℕ) : Type 0 where
   pub len : length places ≡ length order
   pub order_below : (new : ℕ) → new < length order → slice_index order new < length order
   pub places_below : (old : ℕ) → old < length order → slice_index places old < length order
-  pub places_undo : (new : ℕ) → new < length order → slice_index places (slice_index order new) ≡ new
+  pub places_undo : (new : ℕ) → new < length order
+      → slice_index places (slice_index order new) ≡ new
   pub order_undo : (old : ℕ) → old < length order → slice_index order (slice_index places old) ≡ old
 
 -- the second order gives back each number that the first one changed

@@ -49,7 +49,8 @@ fn is_ordered(documents: u32, list: &TermList) -> bool
 /// The first list that isn't in order.
 fn first_disorder(documents: u32, lists: &[TermList]) -> Option<u32>
     requires { length lists.now < 2 ^ 31 }
-    ensures first { MatchOption result (AreOrdered documents lists.now) (IsFirstDisorder documents lists.now) }
+    ensures first { MatchOption result (AreOrdered documents lists.now)
+        (IsFirstDisorder documents lists.now) }
     ensures fits { IfNone result (All FitsList lists.now) }
 {
     for (place, list) in lists.iter().enumerate() {
@@ -64,7 +65,8 @@ fn first_disorder(documents: u32, lists: &[TermList]) -> Option<u32>
 fn first_repeat(alloc: Global, lists: &[TermList]) -> Result<Option<u32>, AllocError>
     requires { length lists.now < 2 ^ 31 }
     ensures { IfOk result
-        (λ found. MatchOption found (AreDifferent (terms_of lists.now)) (IsFirstRepeat (terms_of lists.now))) }
+        (λ found. MatchOption found (AreDifferent (terms_of lists.now))
+        (IsFirstRepeat (terms_of lists.now))) }
 {
     let mut seen = IndexSet::with_capacity(alloc, lists.len())?;
     for (place, list) in lists.iter().enumerate() {
@@ -77,7 +79,8 @@ fn first_repeat(alloc: Global, lists: &[TermList]) -> Result<Option<u32>, AllocE
 
 /// How many postings the lists have, where a `u32` holds it.
 fn total_postings(lists: &[TermList]) -> Option<u32>
-    ensures { MatchOption result (2 ^ 32 ≤ posting_count lists.now) (λ total. total ≡ posting_count lists.now) }
+    ensures { MatchOption result (2 ^ 32 ≤ posting_count lists.now)
+        (λ total. total ≡ posting_count lists.now) }
 {
     let mut total: u32 = 0;
     for list in lists {
@@ -132,7 +135,8 @@ pub fn header_fits(header: &Header)
 fn size(header: &Header, lists: &[TermList], documents: &[DocRecord]) -> Option<u32>
     ensures sized { MatchOption result
         (¬ AreSized (record { header = header.now; lists = lists.now; documents = documents.now }))
-        (λ total. AreSized (record { header = header.now; lists = lists.now; documents = documents.now })) }
+        (λ total. AreSized
+        (record { header = header.now; lists = lists.now; documents = documents.now })) }
     ensures total { MatchOption result (Unit {0}) (λ total. total ≡ posting_count lists.now) }
     ensures header { OnSome result (FitsHeader header.now) }
     ensures documents { OnSome result (All FitsRecord documents.now) }
@@ -153,10 +157,12 @@ pub fn check(
     documents: &[DocRecord],
 ) -> Result<u32, PartsError>
     ensures sound { IfOk result
-        (λ total. IsIndex (record { header = header.now; lists = lists.now; documents = documents.now })) }
+        (λ total. IsIndex
+        (record { header = header.now; lists = lists.now; documents = documents.now })) }
     ensures total { IfOk result (λ total. total ≡ posting_count lists.now) }
     ensures fault { IfErr result
-        (IsPartsFault (record { header = header.now; lists = lists.now; documents = documents.now })) }
+        (IsPartsFault
+        (record { header = header.now; lists = lists.now; documents = documents.now })) }
     ensures memory { IfErr result (λ e. e ≡ no_memory
         → AreCounted (record { header = header.now; lists = lists.now; documents = documents.now })
         × AreOrdered (length documents.now) lists.now) }

@@ -164,7 +164,8 @@ impl PostingTable {
 
     /// How many postings there are.
     pub fn len(&self) -> u32
-        ensures same { result ≡ sum_by (λ part. length part) self.now.closed + length self.now.pending }
+        ensures same { result
+            ≡ sum_by (λ part. length part) self.now.closed + length self.now.pending }
     {
         self.table.len() as u32
     }
@@ -196,7 +197,8 @@ impl PostingTable {
     /// Puts a posting behind those of the open list.
     #[inline]
     pub fn push(&mut self, posting: Posting) -> Result<(), AllocError>
-        requires { sum_by (λ part. length part) self.old.closed + (length self.old.pending + 1) < 2 ^ 32 }
+        requires { sum_by (λ part. length part) self.old.closed
+            + (length self.old.pending + 1) < 2 ^ 32 }
         ensures closed { self.new.closed ≡ self.old.closed }
         ensures ok { OnOk result (self.new.pending ≡ self.old.pending ++ posting ∷ []) }
         ensures same { OnErr result (self.new ≡ self.old) }
@@ -208,7 +210,8 @@ impl PostingTable {
     /// Puts a list with these postings behind the others, where no list is open.
     pub fn push_list(&mut self, postings: &[Posting]) -> Result<(), AllocError>
         requires none_pending { self.old.pending ≡ [] }
-        requires small { sum_by (λ part. length part) self.old.closed + length postings.now < 2 ^ 32 }
+        requires small { sum_by (λ part. length part) self.old.closed
+            + length postings.now < 2 ^ 32 }
         ensures closed { OnOk result (self.new.closed ≡ self.old.closed ++ postings.now ∷ []) }
         ensures pending { OnOk result (self.new.pending ≡ []) }
     {
@@ -240,8 +243,10 @@ impl PostingTable {
 
     /// The same parts of another table.
     pub fn with(&self, alloc: Global, table: Vec<Posting>) -> Result<PostingTable, AllocError>
-        requires { length table.items ≡ sum_by (λ part. length part) self.now.closed + length self.now.pending }
-        ensures closed { IfOk result (λ parts. parts.closed ≡ cut_like self.now.closed table.items) }
+        requires { length table.items
+            ≡ sum_by (λ part. length part) self.now.closed + length self.now.pending }
+        ensures closed { IfOk result
+            (λ parts. parts.closed ≡ cut_like self.now.closed table.items) }
         ensures pending { IfOk result (λ parts. length parts.pending ≡ length self.now.pending) }
     {
         let ends = Vec::from_slice(alloc, &self.ends)?;

@@ -52,12 +52,15 @@ impl Index {
         documents: Vec<DocRecord>,
     ) -> Result<Index, PartsError>
         ensures ok { IfOk result
-            (λ index. index ≡ record { header = header; lists = lists.items; documents = documents.items }) }
+            (λ index. index
+            ≡ record { header = header; lists = lists.items; documents = documents.items }) }
         ensures sound { IfOk result IsIndex }
         ensures fault { IfErr result
-            (IsPartsFault (record { header = header; lists = lists.items; documents = documents.items })) }
+            (IsPartsFault
+            (record { header = header; lists = lists.items; documents = documents.items })) }
         ensures memory { IfErr result (λ e. e ≡ no_memory
-            → AreCounted (record { header = header; lists = lists.items; documents = documents.items })
+            → AreCounted
+            (record { header = header; lists = lists.items; documents = documents.items })
             × AreOrdered (length documents.items) lists.items) }
     {
         let total = check(alloc, &header, &lists, &documents)?;
@@ -159,7 +162,8 @@ impl Index {
     /// The postings of a list, by rising document.
     pub fn postings(&self, list: u32) -> &[Posting]
         requires { list < length self.now.lists }
-        ensures same { option_map (λ l. l.postings) (slice_get self.now.lists list) ≡ Some result.now }
+        ensures same { option_map (λ l. l.postings) (slice_get self.now.lists list)
+            ≡ Some result.now }
         ensures rising { IsPostings (length self.now.documents) result.now }
     {
         self.postings.part(list as usize)
@@ -168,7 +172,8 @@ impl Index {
     /// The name of a document in its collection.
     pub fn name(&self, doc: u32) -> &str
         requires { doc < length self.now.documents }
-        ensures same { option_map (λ d. d.name) (slice_get self.now.documents doc) ≡ Some result.now }
+        ensures same { option_map (λ d. d.name) (slice_get self.now.documents doc)
+            ≡ Some result.now }
     {
         self.names.at(doc as usize)
     }
@@ -238,9 +243,12 @@ fn filled(
     documents: &[DocRecord],
     total: u32,
 ) -> Result<Index, AllocError>
-    requires sound { IsIndex (record { header = header; lists = lists.now; documents = documents.now }) }
+    requires sound { IsIndex
+        (record { header = header; lists = lists.now; documents = documents.now }) }
     requires total { total ≡ posting_count lists.now }
-    ensures { IfOk result (λ index. index ≡ record { header = header; lists = lists.now; documents = documents.now }) }
+    ensures { IfOk result
+        (λ index. index
+        ≡ record { header = header; lists = lists.now; documents = documents.now }) }
 {
     let terms = terms_of(alloc, lists)?;
     let counts = counts_of(alloc, lists)?;
@@ -295,7 +303,8 @@ fn terms_of(alloc: Global, lists: &[TermList]) -> Result<TextTable, AllocError>
 
 /// The fields `df` and `cf` of the lists.
 fn counts_of(alloc: Global, lists: &[TermList]) -> Result<Vec<Counts>, AllocError>
-    ensures { IfOk result (λ counts. counts.items ≡ map (λ list. record { df = list.df; cf = list.cf }) lists.now) }
+    ensures { IfOk result
+        (λ counts. counts.items ≡ map (λ list. record { df = list.df; cf = list.cf }) lists.now) }
 {
     let mut counts = Vec::with_capacity(alloc, lists.len())?;
     for list in lists {
@@ -311,7 +320,8 @@ fn counts_of(alloc: Global, lists: &[TermList]) -> Result<Vec<Counts>, AllocErro
 fn postings_of(alloc: Global, lists: &[TermList], total: u32) -> Result<PostingTable, AllocError>
     requires total { total ≡ posting_count lists.now }
     requires small { total < 2 ^ 32 }
-    ensures closed { IfOk result (λ postings. postings.closed ≡ map (λ list. list.postings) lists.now) }
+    ensures closed { IfOk result
+        (λ postings. postings.closed ≡ map (λ list. list.postings) lists.now) }
     ensures pending { IfOk result (λ postings. postings.pending ≡ []) }
 {
     let mut postings = PostingTable::with_capacity(alloc, lists.len(), total as usize)?;
@@ -349,7 +359,8 @@ fn names_in_order(
     order: &Permutation,
 ) -> Result<TextTable, AllocError>
     requires { length order.now ≡ length names.now }
-    ensures { IfOk result (λ moved. moved ≡ map (λ old. slice_index_or names.now old []) order.now) }
+    ensures { IfOk result
+        (λ moved. moved ≡ map (λ old. slice_index_or names.now old []) order.now) }
 {
     // That its numbers are below its length: for the proof.
     order.is_sound();
@@ -364,7 +375,8 @@ fn names_in_order(
 /// The lengths of the documents in their new order.
 fn sizes_in_order(alloc: Global, sizes: &[i32], order: &Permutation) -> Result<Vec<i32>, AllocError>
     requires { length order.now ≡ length sizes.now }
-    ensures { IfOk result (λ moved. moved.items ≡ map (λ old. slice_index_or sizes.now old (pos 0)) order.now) }
+    ensures { IfOk result
+        (λ moved. moved.items ≡ map (λ old. slice_index_or sizes.now old (pos 0)) order.now) }
 {
     // That its numbers are below its length: for the proof.
     order.is_sound();

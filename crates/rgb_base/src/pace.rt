@@ -1,4 +1,5 @@
-//! Where a caller may hold the work of other threads: tests order threads with it, the program doesn't.
+//! Where a caller may hold the work of other threads: tests order threads with it, the program
+//! doesn't.
 
 /// Calls made between the steps of the work. Each returns and promises nothing.
 pub trait Pace: Sync {
@@ -11,7 +12,7 @@ pub trait Pace: Sync {
     /// At the start of each branch, 0 and 1, of a fork at a level of the recursion.
     fn at_fork(&self, level: u32, branch: u32);
 
-    /// After a cell was claimed, named by its level and its place in its slab, before it is worked on.
+    /// After a cell was claimed, named by its level and its place in its slab, before its work.
     fn at_cell(&self, level: u32, place: u32);
 }
 

@@ -113,7 +113,8 @@ impl Permutation {
     /// First the one, then this one: `after.new_of(old) = self.new_of(first.new_of(old))`.
     pub fn after(&self, alloc: Global, first: &Permutation) -> Result<Permutation, OutOfMemory>
         requires { length first.now ≡ length self.now }
-        ensures ok { IfOk result (λ p. Renumbers p (length self.now) (λ old. new_of self.now (new_of first.now old))) }
+        ensures ok { IfOk result
+            (λ p. Renumbers p (length self.now) (λ old. new_of self.now (new_of first.now old))) }
         ensures sound { IfOk result IsOrder }
     {
         let order = looked_up(alloc, &first.order, &self.order)?;
@@ -151,7 +152,8 @@ fn first_numbers(alloc: Global, n: u32) -> Result<Vec<u32>, AllocError>
 /// What the table has at each of the numbers.
 fn looked_up(alloc: Global, table: &[u32], numbers: &[u32]) -> Result<Vec<u32>, AllocError>
     requires { All (λ number. number < length table.now) numbers.now }
-    ensures { IfOk result (λ found. found.items ≡ map (λ number. slice_index table.now number) numbers.now) }
+    ensures { IfOk result
+        (λ found. found.items ≡ map (λ number. slice_index table.now number) numbers.now) }
 {
     numbers
         .iter()
