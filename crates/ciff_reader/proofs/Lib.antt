@@ -6,6 +6,7 @@ pub mod Rows
 pub mod ListFields
 pub mod Closing
 pub mod Reading
+pub mod ShortPostings
 pub mod Windows
 pub mod Frames
 pub mod Steps

@@ -1,25 +1,26 @@
 -- A list's message, read field after field.
-use Rattle.std.proofs.Common.{◌≡◌, ◌≢◌, ◌⊎◌, inl, inr, ℕ, ◌+◌, ◌-◌, ◌^◌, ◌<◌, ◌≤◌, Bool, true, false, IsTrue, ℤ, pos, List, [], ◌∷◌, ◌++◌, length, map, take, drop, refl, sym, ap, subst, ◌∙◌, arith, Result, Ok, Err, OnOk, IfErr}
+use Rattle.std.proofs.Common.{◌≡◌, inl, inr, ℕ, ◌+◌, ◌-◌, ◌<◌, ◌≤◌, true, ℤ, pos, List, [], ◌∷◌, ◌++◌, map, take, drop, refl, sym, ap, subst, ◌∙◌, Result, Ok, Err, OnOk, IfErr}
 use Rattle.std.specs.Prelude.{◌≤ℤ◌, ◌<ℤ◌, Option}
-use Rattle.std.specs.List.{All, AllZip}
+use Rattle.std.specs.List.{AllZip}
 use Rattle.ciff_format.specs.Accepted.{Front}
 use Rattle.rgb_base.specs.declared.parts.Posting.{Posting}
-use Rattle.std.proofs.lemmas.Int.{ints}
 use Rattle.std.proofs.lemmas.List.Elements.{All-nil}
 use Rattle.ciff_wire.specs.Field.{Held, Entry, SpellsField, IsMessage, as_bytes}
 use Rattle.ciff_wire.specs.Laws.{FieldIsAdded}
 use Rattle.rgb_base.specs.Building.{Building}
-use Rattle.ciff_format.specs.declared.cause.Cause.{Cause}
-use Rattle.ciff_format.specs.Fields.{list_table, posting_table, HasItsType, HasFields, HasText, bytes_or_none, int64_at, held_at, number_or_zero}
-use Rattle.ciff_format.specs.Messages.{PostingRows, HasListFields, gaps_in, sums_from, AreGaps}
-use Rattle.ciff_format.specs.Growing.{NothingHeld, TypesGrow, WrongTypeIsBad, BadPostingIsBad, sum_after, least_gap}
+use Rattle.ciff_format.specs.Fields.{list_table, posting_table, HasItsType, HasFields, HasText, bytes_or_none, number_or_zero}
+use Rattle.ciff_format.specs.Messages.{PostingRows, HasListFields, sums_from, AreGaps}
+use Rattle.ciff_format.specs.Growing.{NothingHeld, LaterWins, EachIsAdded, TypesGrow, TextsGrow, WrongTypeIsBad, BadPostingIsBad, sum_after}
 use Rattle.ciff_format.specs.Refused.{IsListFault}
 use Rattle.std.specs.Int.{w64, cast_signed}
 use Rattle.ciff_reader.specs.declared.error.Refusal.{Refusal}
 use Rattle.ciff_reader.specs.declared.gaps.Gaps.{Gaps}
 use Rattle.ciff_reader.specs.declared.list.ListFields.{ListFields}
-use Rattle.ciff_reader.specs.Listing.{listing, without_postings, ChangesPostings, IsRefusal, IsBadField, SaysList, SaysPostings, ReadsList, AddsList}
+use Rattle.ciff_reader.specs.Listing.{listing, without_postings, ChangesPostings, IsRefusal, IsBadField, SaysGaps, SaysList, SaysPostings, StartsWithPosting, ReadsList, AddsList}
+use Rattle.ciff_reader.specs.declared.posting.PostingFields.{PostingFields}
+use Rattle.ciff_reader.specs.Says.{SaysPosting}
 use Rattle.ciff_reader.proofs.Fronts.{fields_begin, field_added, wrong_type}
+use Rattle.ciff_reader.proofs.ListFields.{takes_posting, one_posting}
 
 no_gaps : (documents : ℕ) → AreGaps documents []
 unfolding sums_from
@@ -73,6 +74,19 @@ list_goes_on added grow message rest at used entry kept kept' gaps gaps' buildin
       says = taken.1 reads.fields reads.says;
       postings = more.1;
     }
+
+-- a posting that is read where it stands
+pub posting_goes_on : FieldIsAdded → TypesGrow → LaterWins → TextsGrow → EachIsAdded → (message rest : List ℕ) (at used : ℕ) (posting : PostingFields) (kept : ListFields) (gaps gaps' : Gaps) (building building' : Building)
+    → rest ≡ drop at message → StartsWithPosting rest posting used
+    → ((rows : PostingRows) (row : List Entry) → SaysPosting row posting → SaysGaps rows gaps building → SaysGaps (rows ++ row ∷ []) gaps' building')
+    → ReadsList (take at message) kept gaps building → ReadsList (take (at + used) message) kept gaps' building'
+posting_goes_on added grow wins texts each message rest at used posting kept gaps gaps' building building' behind starts more reads =
+    let entry : Entry = record { number = 4; held = as_bytes starts.posting } in
+    let row = starts.read.fields in
+    list_goes_on added grow message rest at used entry kept kept gaps gaps' building building' behind starts.spells
+    (takes_posting wins texts entry kept starts.posting refl refl)
+    (λ fields rows says. (rows ++ row ∷ [], one_posting each fields entry rows gaps building starts.posting row gaps' building' refl refl starts.read.read (more rows row starts.read.says says.gaps) says))
+    reads
 
 -- a bad field behind the fields of a front
 pub bad_field : FieldIsAdded → TypesGrow → WrongTypeIsBad → BadPostingIsBad → (message rest : List ℕ) (at used : ℕ) (front : List Entry) (entry : Entry)

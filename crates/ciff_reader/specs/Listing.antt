@@ -1,7 +1,7 @@
 -- How a list's message is read into an index that is being built.
-use Rattle.std.specs.Prelude.{◌≡◌, ◌⊎◌, ◌↔◌, ℕ, ◌+◌, ◌^◌, ◌≤◌, ℤ, pos, List, [], ◌∷◌, ◌++◌, length, map, Option, Some, None, Contains, IsTrue}
+use Rattle.std.specs.Prelude.{◌≡◌, ◌⊎◌, ◌↔◌, ℕ, ◌+◌, ◌^◌, ◌≤◌, pos, List, [], ◌∷◌, ◌++◌, length, take, map, Option, Some, None, Contains, IsTrue}
 use Rattle.std.specs.List.{AllZip}
-use Rattle.ciff_wire.specs.Field.{Entry, as_bytes}
+use Rattle.ciff_wire.specs.Field.{Entry, SpellsField, as_bytes}
 use Rattle.rgb_base.specs.declared.parts.Posting.{Posting}
 use Rattle.rgb_base.specs.declared.parts.TermList.{TermList}
 use Rattle.rgb_base.specs.Parts.{terms_of, posting_count, AreSized}
@@ -15,6 +15,8 @@ use Rattle.ciff_reader.specs.declared.error.Refusal.{Refusal}
 use Rattle.ciff_reader.specs.declared.error.Refusal.TheVariants as refusals
 use Rattle.ciff_reader.specs.declared.gaps.Gaps.{Gaps}
 use Rattle.ciff_reader.specs.declared.list.ListFields.{ListFields}
+use Rattle.ciff_reader.specs.declared.posting.PostingFields.{PostingFields}
+use Rattle.ciff_reader.specs.Says.{ReadAs, SaysPosting}
 
 -- what the messages before the records say, in a file of so many lists
 abbrev pub listing : ℕ → Building → Front
@@ -86,6 +88,13 @@ TakesPosting entry kept building None building' = IsBadField entry
 TakesPosting entry kept building (Some kept') building' =
     (fields : List Entry) (rows : PostingRows) → SaysPostings fields rows kept building
     → (rows' : PostingRows) × SaysPostings (fields ++ entry ∷ []) rows' kept' building'
+
+-- a field of a posting stands at the front and takes so many bytes, and this is what it says
+pub record StartsWithPosting (bytes : List ℕ) (kept : PostingFields) (used : ℕ) : Type 0 where
+  pub posting : List ℕ
+  pub within : used ≤ length bytes
+  pub spells : SpellsField (take used bytes) (record { number = 4; held = as_bytes posting })
+  pub read : ReadAs posting_table SaysPosting posting kept
 
 -- ---- the list
 

@@ -1,15 +1,18 @@
 //! The postings of a list, as gaps between their documents.
-ghost use Rattle.std.specs.Prelude.{◌≡◌, List, [], ◌∷◌, ◌++◌, IfOk, IsTrue};
+ghost use Rattle.std.specs.Prelude.{◌≡◌, ◌≤◌, List, [], ◌∷◌, ◌++◌, length, take, IfOk, IsTrue};
 ghost use Rattle.ciff_wire.specs.Field.{Entry, entry_of};
 ghost use Rattle.rgb_base.specs.Building.{IsNextDocument, IsFullOfPostings, with_posting};
 ghost use Rattle.ciff_format.specs.Messages.{PostingRows};
 ghost use Rattle.ciff_reader.specs.Says.{SaysPosting};
-ghost use Rattle.ciff_reader.specs.Listing.{ChangesPostings, SaysGaps, TakesPosting};
+ghost use Rattle.ciff_reader.specs.declared.list.ListFields.{ListFields};
+ghost use Rattle.ciff_reader.specs.Listing.{ChangesPostings, ReadsList, SaysGaps, TakesPosting};
 
 use crate::content::bytes_in;
 use crate::posting::{PostingFields, read_posting};
+use crate::short::short_posting;
 use ciff_format::laws::{fields_grow, gaps_grow};
 use ciff_wire::Field;
+use ciff_wire::laws::field_after_field;
 use rgb_base::{BuildError, IndexBuilder, OutOfMemory, Posting};
 
 /// What the gaps of a list say so far.
@@ -48,6 +51,36 @@ impl Gaps {
             return Ok(None);
         };
         Ok(Some(self.with_posting(posting, builder)?))
+    }
+
+    /// The short postings one after another from a place of the list's message on, and the place behind
+    /// them.
+    #[inline(never)]
+    pub(crate) fn with_short_postings(
+        self,
+        message: &[u8],
+        start: usize,
+        builder: &mut IndexBuilder,
+    ) -> Result<(Gaps, usize), OutOfMemory>
+        requires { start ≤ length message.now }
+        ensures same { ChangesPostings builder.old builder.new }
+        ensures behind { IfOk result (λ t. start ≤ t.1) }
+        ensures within { IfOk result (λ t. t.1 ≤ length message.now) }
+        ensures read { IfOk result (λ t. (kept : ListFields)
+            → ReadsList (take start message.now) kept self builder.old
+            → ReadsList (take t.1 message.now) kept t.0 builder.new) }
+    {
+        fields_grow();
+        field_after_field();
+        let mut gaps = self;
+        let mut at = start;
+        'postings: loop {
+            let Some((posting, used)) = short_posting(&message[at..]) else {
+                return Ok((gaps, at));
+            };
+            gaps = gaps.with_posting(posting, builder)?;
+            at += used;
+        }
     }
 
     /// One more posting, which is pushed to the open list where its gap is good and there is room.

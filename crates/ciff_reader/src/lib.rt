@@ -15,6 +15,7 @@ mod posting;
 mod read;
 mod record;
 mod records;
+mod short;
 mod waiting;
 mod window;
 
@@ -25,6 +26,8 @@ pub use read::read_index;
 mod list_tests;
 #[cfg(test)]
 mod record_tests;
+#[cfg(test)]
+mod short_tests;
 #[cfg(test)]
 mod test_files;
 #[cfg(test)]

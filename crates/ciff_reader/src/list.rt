@@ -122,16 +122,19 @@ pub(crate) fn read_list(message: &[u8], builder: &mut IndexBuilder) -> Result<()
     };
     let mut at = 0;
     'fields: loop {
-        let Ok(next) = next_field(&message[at..]) else {
+        let Ok((gaps_so_far, behind)) = gaps.with_short_postings(message, at, builder) else {
+            return Err(Refusal::OutOfMemory);
+        };
+        let Ok(next) = next_field(&message[behind..]) else {
             return Err(Refusal::Cause(Cause::BadField));
         };
         let Some((field, used)) = next else {
-            return kept.close(gaps, builder);
+            return kept.close(gaps_so_far, builder);
         };
         let Some(more) = kept.with_field(field) else {
             return Err(Refusal::Cause(Cause::BadField));
         };
-        let Ok(taken) = gaps.with_field(field, builder) else {
+        let Ok(taken) = gaps_so_far.with_field(field, builder) else {
             return Err(Refusal::OutOfMemory);
         };
         let Some(further) = taken else {
@@ -139,6 +142,6 @@ pub(crate) fn read_list(message: &[u8], builder: &mut IndexBuilder) -> Result<()
         };
         kept = more;
         gaps = further;
-        at += used;
+        at = behind + used;
     }
 }

@@ -44,7 +44,8 @@ impl Waiting {
         ensures taken { result ≡ found self.old number }
         ensures gone { found self.new number ≡ None }
         ensures others { StaysBut number self.old self.new }
-        ensures fewer { OnSome result (btree_map_len self.new.records + 1 ≡ btree_map_len self.old.records) }
+        ensures fewer { OnSome result
+            (btree_map_len self.new.records + 1 ≡ btree_map_len self.old.records) }
     {
         self.records.remove(&number)
     }

@@ -30,7 +30,8 @@ impl Model for Window {
 
     ghost view = { λ w. record { place = w.place; bytes = drop w.start w.bytes.items } };
 
-    ghost invariant = { λ w. (w.start ≤ vec_len w.bytes) × (w.place ≤ 2 ^ 41) × (0 < vec_len w.piece) };
+    ghost invariant = { λ w. (w.start ≤ vec_len w.bytes) × (w.place ≤ 2 ^ 41)
+        × (0 < vec_len w.piece) };
 }
 
 impl Window {

@@ -1,9 +1,7 @@
-use Rattle.std.proofs.Common.{◌≡◌, ◌+◌, ◌-◌, ◌^◌, ◌<◌, ◌≤◌, List, ℕ, length, take, drop, IfSome, IfNone, [], refl, ap, subst, ◌∙◌, arith, rules}
+use Rattle.std.proofs.Common.{◌≡◌, ◌-◌, ◌≤◌, List, ℕ, length, take, drop, IfSome, IfNone, [], refl, ap, subst, ◌∙◌, arith}
 use Rattle.std.proofs.lemmas.List.{take_rest, length-take, length-drop}
 use Rattle.ciff_wire.specs.Field.{SpellsField, entry_of}
 use Rattle.ciff_format.specs.Fields.{list_table}
-use Rattle.ciff_format.specs.Refused.{IsListFault}
-use Rattle.ciff_format.specs.declared.cause.Cause.TheVariants.{BadField}
 use Rattle.std.specs.Prelude.{Option}
 use Rattle.ciff_reader.specs.declared.gaps.Gaps.{Gaps}
 use Rattle.rgb_base.specs.Building.{Building}
@@ -21,72 +19,78 @@ fields-init c = record {
   few = c.requires.few;
 }
 
-pub returns-in_default-clause-fault : goal.returns-in_default-clause-fault
-returns-in_default-clause-fault c = λ lists fields rows has.
+pub returns-in_default-next_field-clause-fault : goal.returns-in_default-next_field-clause-fault
+returns-in_default-next_field-clause-fault c = λ lists fields rows has.
     let message = c.args.message.now in
-    let at = c.fields.at in
-    faulty c.field_after_field.ensures.first c.message_is_one.ensures.fault list_table message (take (length message - at) (drop at message)) at c.fields.invariant.read.fields c.in_default.field-0
-    (take_rest message at) c.in_default.ensures.fault c.fields.invariant.read.read fields has.own
+    let at = c.in-Ok.behind in
+    let so_far = c.in-Ok.ensures.read c.fields.kept c.fields.invariant.read in
+    faulty c.field_after_field.ensures.first c.message_is_one.ensures.fault list_table message (take (length message - at) (drop at message)) at so_far.fields c.in_default-next_field.field-0
+    (take_rest message at) c.in_default-next_field.ensures.fault so_far.read fields has.own
 
 pub returns-in_default-next-clause-ok : goal.returns-in_default-next-clause-ok
 returns-in_default-next-clause-ok c =
     let message = c.args.message.now in
-    let at = c.fields.at in
+    let at = c.in-Ok.behind in
+    let so_far = c.in-Ok.ensures.read c.fields.kept c.fields.invariant.read in
     let rest = take (length message - at) (drop at message) in
-    let none : rest ≡ [] = subst (λ next. IfNone next (rest ≡ [])) c.in_default-next.is c.in-Ok.ensures.none in
-    let reads = subst (λ (m : List ℕ). ReadsList m c.fields.kept c.fields.gaps c.fields.builder) (whole message rest at (take_rest message at) none) c.fields.invariant.read in
-    closed_ok message c.fields.kept c.fields.gaps c.args.builder.now c.fields.builder c.close.new.builder c.close.result c.requires.none_open c.fields.invariant.same reads c.close.ensures.ok
+    let none : rest ≡ [] = subst (λ next. IfNone next (rest ≡ [])) c.in_default-next.is c.in-Ok-next_field.ensures.none in
+    let reads = subst (λ (m : List ℕ). ReadsList m c.fields.kept c.in-Ok.gaps_so_far c.with_short_postings.new.builder) (whole message rest at (take_rest message at) none) so_far in
+    closed_ok message c.fields.kept c.in-Ok.gaps_so_far c.args.builder.now c.with_short_postings.new.builder c.close.new.builder c.close.result c.requires.none_open (changes_twice c.args.builder.now c.fields.builder c.with_short_postings.new.builder c.fields.invariant.same c.in-Ok.ensures.same) reads c.close.ensures.ok
 
 pub returns-in_default-next-clause-fault : goal.returns-in_default-next-clause-fault
 returns-in_default-next-clause-fault c =
     let message = c.args.message.now in
-    let at = c.fields.at in
+    let at = c.in-Ok.behind in
+    let so_far = c.in-Ok.ensures.read c.fields.kept c.fields.invariant.read in
     let rest = take (length message - at) (drop at message) in
-    let none : rest ≡ [] = subst (λ next. IfNone next (rest ≡ [])) c.in_default-next.is c.in-Ok.ensures.none in
-    let reads = subst (λ (m : List ℕ). ReadsList m c.fields.kept c.fields.gaps c.fields.builder) (whole message rest at (take_rest message at) none) c.fields.invariant.read in
-    closed_fault message c.fields.kept c.fields.gaps c.args.builder.now c.fields.builder c.close.result c.fields.invariant.same reads c.close.ensures.fault
+    let none : rest ≡ [] = subst (λ next. IfNone next (rest ≡ [])) c.in_default-next.is c.in-Ok-next_field.ensures.none in
+    let reads = subst (λ (m : List ℕ). ReadsList m c.fields.kept c.in-Ok.gaps_so_far c.with_short_postings.new.builder) (whole message rest at (take_rest message at) none) so_far in
+    closed_fault message c.fields.kept c.in-Ok.gaps_so_far c.args.builder.now c.with_short_postings.new.builder c.close.result (changes_twice c.args.builder.now c.fields.builder c.with_short_postings.new.builder c.fields.invariant.same c.in-Ok.ensures.same) reads c.close.ensures.fault
 
 pub returns-in_default-with_field-clause-fault : goal.returns-in_default-with_field-clause-fault
 returns-in_default-with_field-clause-fault c = λ lists fields rows has.
     let message = c.args.message.now in
-    let at = c.fields.at in
+    let at = c.in-Ok.behind in
+    let so_far = c.in-Ok.ensures.read c.fields.kept c.fields.invariant.read in
     let rest = take (length message - at) (drop at message) in
-    let spells : SpellsField (take c.in-Some.used rest) (entry_of c.in-Some.field) = subst (λ next. IfSome next (λ t. SpellsField (take t.1 rest) (entry_of t.0))) c.in-Some.is c.in-Ok.ensures.field in
-    wrong_type c.field_after_field.ensures.added c.fields_grow.ensures.types c.fields_grow.ensures.wrong_type list_table message rest at c.in-Some.used c.fields.invariant.read.fields (entry_of c.in-Some.field)
-    (take_rest message at) spells c.in_default-with_field.ensures.taken c.fields.invariant.read.read fields has.own
+    let spells : SpellsField (take c.in-Some.used rest) (entry_of c.in-Some.field) = subst (λ next. IfSome next (λ t. SpellsField (take t.1 rest) (entry_of t.0))) c.in-Some.is c.in-Ok-next_field.ensures.field in
+    wrong_type c.field_after_field.ensures.added c.fields_grow.ensures.types c.fields_grow.ensures.wrong_type list_table message rest at c.in-Some.used so_far.fields (entry_of c.in-Some.field)
+    (take_rest message at) spells c.in_default-with_field.ensures.taken so_far.read fields has.own
 
 pub returns-in_default-taken-clause-fault : goal.returns-in_default-taken-clause-fault
 returns-in_default-taken-clause-fault c = λ lists fields rows.
     let message = c.args.message.now in
-    let at = c.fields.at in
+    let at = c.in-Ok.behind in
+    let so_far = c.in-Ok.ensures.read c.fields.kept c.fields.invariant.read in
     let rest = take (length message - at) (drop at message) in
-    let spells : SpellsField (take c.in-Some.used rest) (entry_of c.in-Some.field) = subst (λ next. IfSome next (λ t. SpellsField (take t.1 rest) (entry_of t.0))) c.in-Some.is c.in-Ok.ensures.field in
-    let bad = subst (λ (t : Option Gaps). TakesPosting (entry_of c.in-Some.field) c.fields.gaps c.fields.builder t c.with_field-in-fields.new.builder) c.in_default-taken.is c.in-Ok-with_field.ensures.taken in
-    bad_field c.field_after_field.ensures.added c.fields_grow.ensures.types c.fields_grow.ensures.wrong_type c.fields_grow.ensures.bad_posting message rest at c.in-Some.used c.fields.invariant.read.fields (entry_of c.in-Some.field)
-    (take_rest message at) spells bad c.fields.invariant.read.read fields rows
+    let spells : SpellsField (take c.in-Some.used rest) (entry_of c.in-Some.field) = subst (λ next. IfSome next (λ t. SpellsField (take t.1 rest) (entry_of t.0))) c.in-Some.is c.in-Ok-next_field.ensures.field in
+    let bad = subst (λ (t : Option Gaps). TakesPosting (entry_of c.in-Some.field) c.in-Ok.gaps_so_far c.with_short_postings.new.builder t c.with_field-in-fields.new.builder) c.in_default-taken.is c.in-Ok-with_field.ensures.taken in
+    bad_field c.field_after_field.ensures.added c.fields_grow.ensures.types c.fields_grow.ensures.wrong_type c.fields_grow.ensures.bad_posting message rest at c.in-Some.used so_far.fields (entry_of c.in-Some.field)
+    (take_rest message at) spells bad so_far.read fields rows
 
 pub fields-smaller : goal.fields-smaller
 fields-smaller c =
     let message = c.args.message.now in
-    let at = c.fields.at in
+    let at = c.in-Ok.behind in
     let rest = take (length message - at) (drop at message) in
-    let spells : SpellsField (take c.in-Some.used rest) (entry_of c.in-Some.field) = subst (λ next. IfSome next (λ t. SpellsField (take t.1 rest) (entry_of t.0))) c.in-Some.is c.in-Ok.ensures.field in
-    let within : c.in-Some.used ≤ length rest = subst (λ next. IfSome next (λ t. t.1 ≤ length rest)) c.in-Some.is c.in-Ok.ensures.within in
-    omega (arith, within, used_some rest (entry_of c.in-Some.field) c.in-Some.used spells, length-take (length message - at) (drop at message), length-drop at message, c.fields.invariant.within)
+    let spells : SpellsField (take c.in-Some.used rest) (entry_of c.in-Some.field) = subst (λ next. IfSome next (λ t. SpellsField (take t.1 rest) (entry_of t.0))) c.in-Some.is c.in-Ok-next_field.ensures.field in
+    let within : c.in-Some.used ≤ length rest = subst (λ next. IfSome next (λ t. t.1 ≤ length rest)) c.in-Some.is c.in-Ok-next_field.ensures.within in
+    omega (arith, within, used_some rest (entry_of c.in-Some.field) c.in-Some.used spells, length-take (length message - at) (drop at message), length-drop at message, c.in-Ok.ensures.within, c.in-Ok.ensures.behind)
 
 pub fields-preserved : goal.fields-preserved
 fields-preserved c =
     let message = c.args.message.now in
-    let at = c.fields.at in
+    let at = c.in-Ok.behind in
+    let so_far = c.in-Ok.ensures.read c.fields.kept c.fields.invariant.read in
     let rest = take (length message - at) (drop at message) in
-    let spells : SpellsField (take c.in-Some.used rest) (entry_of c.in-Some.field) = subst (λ next. IfSome next (λ t. SpellsField (take t.1 rest) (entry_of t.0))) c.in-Some.is c.in-Ok.ensures.field in
-    let within : c.in-Some.used ≤ length rest = subst (λ next. IfSome next (λ t. t.1 ≤ length rest)) c.in-Some.is c.in-Ok.ensures.within in
-    let pushed = subst (λ (t : Option Gaps). TakesPosting (entry_of c.in-Some.field) c.fields.gaps c.fields.builder t c.with_field-in-fields.new.builder) c.in-Some-taken.is c.in-Ok-with_field.ensures.taken in
-    let same = c.in-Ok-with_field.ensures.same in
+    let spells : SpellsField (take c.in-Some.used rest) (entry_of c.in-Some.field) = subst (λ next. IfSome next (λ t. SpellsField (take t.1 rest) (entry_of t.0))) c.in-Some.is c.in-Ok-next_field.ensures.field in
+    let within : c.in-Some.used ≤ length rest = subst (λ next. IfSome next (λ t. t.1 ≤ length rest)) c.in-Some.is c.in-Ok-next_field.ensures.within in
+    let pushed = subst (λ (t : Option Gaps). TakesPosting (entry_of c.in-Some.field) c.in-Ok.gaps_so_far c.with_short_postings.new.builder t c.with_field-in-fields.new.builder) c.in-Some-taken.is c.in-Ok-with_field.ensures.taken in
+    let same = changes_twice c.fields.builder c.with_short_postings.new.builder c.with_field-in-fields.new.builder c.in-Ok.ensures.same c.in-Ok-with_field.ensures.same in
     record {
-      within = omega (arith, within, length-take (length message - at) (drop at message), length-drop at message, c.fields.invariant.within);
-      read = list_goes_on c.field_after_field.ensures.added c.fields_grow.ensures.types message rest at c.in-Some.used (entry_of c.in-Some.field) c.fields.kept c.in-Some-with_field.more c.fields.gaps c.in-Some-taken.further c.fields.builder c.with_field-in-fields.new.builder
-          (take_rest message at) spells c.in-Some-with_field.ensures.taken pushed c.fields.invariant.read;
+      within = omega (arith, within, length-take (length message - at) (drop at message), length-drop at message, c.in-Ok.ensures.within);
+      read = list_goes_on c.field_after_field.ensures.added c.fields_grow.ensures.types message rest at c.in-Some.used (entry_of c.in-Some.field) c.fields.kept c.in-Some-with_field.more c.in-Ok.gaps_so_far c.in-Some-taken.further c.with_short_postings.new.builder c.with_field-in-fields.new.builder
+          (take_rest message at) spells c.in-Some-with_field.ensures.taken pushed so_far;
       same = changes_twice c.args.builder.now c.fields.builder c.with_field-in-fields.new.builder c.fields.invariant.same same;
       no_record = ap (λ (b : Building). b.records) same ∙ c.fields.invariant.no_record;
       few = omega (arith, ap (λ (b : Building). length b.lists) same, c.fields.invariant.few);

@@ -1,0 +1,150 @@
+//! Reading a posting where it stands in its list's message, where it is spelt as most are.
+ghost use Rattle.std.specs.Prelude.{◌≡◌, ◌⊎◌, ◌+◌, ◌-◌, ◌*◌, ◌/◌, ◌<◌, ◌≤◌, length, take, IfSome};
+ghost use Rattle.ciff_wire.specs.Varint.{Reads};
+ghost use Rattle.ciff_wire.specs.Field.{as_number, SpellsField};
+ghost use Rattle.ciff_reader.specs.Listing.{StartsWithPosting};
+
+use crate::posting::PostingFields;
+use ciff_wire::as_i32;
+
+/// The first byte of a posting: field 4, of bytes.
+const POSTING: u8 = 0x22;
+
+/// The first byte of the gap: field 1, of a number.
+const GAP: u8 = 0x08;
+
+/// The first byte of the frequency: field 2, of a number.
+const FREQUENCY: u8 = 0x10;
+
+/// The posting at the front, and how many bytes its field takes. Nothing is answered where it isn't spelt
+/// as most are: a length of one byte, the gap, and then the frequency, each of at most three bytes.
+#[inline]
+pub(crate) fn short_posting(bytes: &[u8]) -> Option<(PostingFields, usize)>
+    ensures posting { IfSome result (λ t. StartsWithPosting bytes.now t.0 t.1) }
+{
+    match posting_in_eight(bytes) {
+        Some(found) => Some(found),
+        None => posting_by_parts(bytes),
+    }
+}
+
+/// A short posting within eight bytes whose frequency takes one. Gaps of one, two and three bytes come
+/// mixed, so no branch hangs on how many a gap has.
+#[inline]
+fn posting_in_eight(bytes: &[u8]) -> Option<(PostingFields, usize)>
+    ensures posting { IfSome result (λ t. StartsWithPosting bytes.now t.0 t.1) }
+{
+    let [POSTING, size, GAP, low, middle, high, _, _, ..] = bytes else {
+        return None;
+    };
+    let (gap, len) = gap_of(*low, *middle, *high);
+    let end = usize::from(*size);
+    if end != len + 3 || len == 4 {
+        return None;
+    }
+    let tf = bytes[end + 1];
+    if bytes[end] != FREQUENCY || tf >= 128 {
+        return None;
+    }
+    let posting = PostingFields {
+        gap: as_i32(u64::from(gap)),
+        tf: as_i32(u64::from(tf)),
+    };
+    Some((posting, end + 2))
+}
+
+/// The varint that these bytes begin with, and how many of them it takes, 4 where it has more than three.
+#[inline]
+fn gap_of(low: u8, middle: u8, high: u8) -> (u32, usize)
+    ensures one { low < 128 → (result.0 ≡ low) × (result.1 ≡ 1) }
+    ensures two { 128 ≤ low → middle < 128
+        → (result.0 ≡ low - 128 + middle * 128) × (result.1 ≡ 2) }
+    ensures three { 128 ≤ low → 128 ≤ middle → high < 128
+        → (result.0 ≡ low - 128 + middle * 128 - 16384 + high * 16384) × (result.1 ≡ 3) }
+    ensures more { 128 ≤ low → 128 ≤ middle → 128 ≤ high → result.1 ≡ 4 }
+{
+    let (low, middle, high) = (u32::from(low), u32::from(middle), u32::from(high));
+    let second = low / 128;
+    let third = where_set(second, middle / 128);
+    let fourth = where_set(third, high / 128);
+    let value = low % 128
+        + where_set(second, middle % 128) * 128
+        + where_set(third, high % 128) * 16384;
+    (value, (1 + second + third + fourth) as usize)
+}
+
+/// The number where the bit is 1, and 0 where it is 0.
+#[inline]
+fn where_set(bit: u32, number: u32) -> u32
+    requires { bit < 2 }
+    ensures none { bit ≡ 0 → result ≡ 0 }
+    ensures same { bit ≡ 1 → result ≡ number }
+{
+    bit * number
+}
+
+/// A short posting, part by part.
+#[inline]
+fn posting_by_parts(bytes: &[u8]) -> Option<(PostingFields, usize)>
+    ensures posting { IfSome result (λ t. StartsWithPosting bytes.now t.0 t.1) }
+{
+    let [POSTING, size, content @ ..] = bytes else {
+        return None;
+    };
+    let (gap, first) = number_behind(GAP, content)?;
+    let (tf, second) = number_behind(FREQUENCY, &content[first..])?;
+    let len = first + second;
+    if usize::from(*size) != len {
+        return None;
+    }
+    let posting = PostingFields {
+        gap: as_i32(gap),
+        tf: as_i32(tf),
+    };
+    Some((posting, 2 + len))
+}
+
+/// The number at the front whose field has this tag, and how many bytes the field takes.
+#[inline]
+fn number_behind(tag: u8, bytes: &[u8]) -> Option<(u64, usize)>
+    requires { (tag ≡ 8) ⊎ (tag ≡ 16) }
+    ensures within { IfSome result (λ t. t.1 ≤ length bytes.now) }
+    ensures most { IfSome result (λ t. t.1 ≤ 4) }
+    ensures field { IfSome result (λ t.
+        SpellsField (take t.1 bytes.now) (record { number = tag / 8; held = as_number t.0 })) }
+{
+    match bytes {
+        [first, rest @ ..] if *first == tag => {
+            let (value, used) = short_varint(rest)?;
+            Some((u64::from(value), 1 + used))
+        }
+        _ => None,
+    }
+}
+
+/// The varint of one to three bytes at the front, and how many it takes.
+#[inline]
+fn short_varint(bytes: &[u8]) -> Option<(u32, usize)>
+    ensures reads { IfSome result (λ t. Reads bytes.now t.0 t.1) }
+    ensures most { IfSome result (λ t. t.1 ≤ 3) }
+{
+    let [low, rest @ ..] = bytes else {
+        return None;
+    };
+    let low = u32::from(*low);
+    if low < 128 {
+        return Some((low, 1));
+    }
+    let [middle, rest @ ..] = rest else {
+        return None;
+    };
+    let middle = u32::from(*middle);
+    let two = low - 128 + middle * 128;
+    if middle < 128 {
+        return Some((two, 2));
+    }
+    match rest {
+        [high, ..] if *high < 128 => Some((two - 16384 + u32::from(*high) * 16384, 3)),
+        _ => None,
+    }
+}

@@ -1,0 +1,196 @@
+//! Lists whose postings are spelt in short ways and in long ones.
+use crate::read_index;
+use crate::test_files::{host, refusal};
+use ciff_format::Cause;
+use std::alloc::Global;
+use std::test::Fail;
+
+/// A file of one list with this message and 300 documents, whose records tell their numbers alone.
+fn file_of(alloc: Global, list: &[u8]) -> Result<Vec<u8>, Fail> {
+    let mut file = [0x05, 0x10, 0x01, 0x18, 0xac, 0x02].to_vec(alloc)?;
+    let len = list.len() & 0x3fff;
+    file.extend_from_slice(&[(len & 0x7f) as u8 | 0x80, (len >> 7) as u8])?;
+    file.extend_from_slice(list)?;
+    for doc in 0..300u32 {
+        file.extend_from_slice(&[0x03, 0x08, (doc & 0x7f) as u8 | 0x80, (doc >> 7) as u8])?;
+    }
+    Ok(file)
+}
+
+/// The list of such a file as a text: its frequencies, and each document with its own.
+fn told_list(alloc: Global, list: &[u8], most: u32) -> Result<String, Fail> {
+    let mut host = host(alloc, &file_of(alloc, list)?, most, 0)?;
+    let Ok(index) = read_index(alloc, &mut host, "in") else {
+        return Ok(String::from_str(alloc, "refused")?);
+    };
+    let mut text = String::new(alloc);
+    for list in 0..index.lists() {
+        text.push_str(&format!(in alloc; "{} {}", index.df(list), index.cf(list))?)?;
+        for posting in index.postings(list) {
+            text.push_str(&format!(in alloc; " {}:{}", posting.doc, posting.tf)?)?;
+        }
+    }
+    Ok(text)
+}
+
+#[test]
+fn postings_of_many_spellings(rt: HostRuntime) -> Result<(), Fail> {
+    let alloc = rt.alloc();
+    let rows: [(&[u8], &str); 9] = [
+        // Varints of one byte and of two.
+        (
+            &[
+                0x22, 0x04, 0x08, 0x00, 0x10, 0x01, 0x22, 0x05, 0x08, 0x80, 0x01, 0x10, 0x02, 0x22,
+                0x05, 0x08, 0x01, 0x10, 0xac, 0x02, 0x22, 0x06, 0x08, 0xaa, 0x01, 0x10, 0x80, 0x00,
+            ],
+            "0 0 0:1 128:2 129:300 299:0",
+        ),
+        // Gaps of 1 in one, two, five and ten bytes, and in five and ten of which high bits are lost.
+        (
+            &[
+                0x22, 0x04, 0x08, 0x01, 0x10, 0x01, 0x22, 0x05, 0x08, 0x81, 0x00, 0x10, 0x01, 0x22,
+                0x08, 0x08, 0x81, 0x80, 0x80, 0x80, 0x00, 0x10, 0x01, 0x22, 0x0d, 0x08, 0x81, 0x80,
+                0x80, 0x80, 0x80, 0x80, 0x80, 0x80, 0x80, 0x00, 0x10, 0x01, 0x22, 0x08, 0x08, 0x81,
+                0x80, 0x80, 0x80, 0x10, 0x10, 0x01, 0x22, 0x0d, 0x08, 0x81, 0x80, 0x80, 0x80, 0x80,
+                0x80, 0x80, 0x80, 0x80, 0x7e, 0x10, 0x01,
+            ],
+            "0 0 1:1 2:1 3:1 4:1 5:1 6:1",
+        ),
+        // Frequencies of 127, 128, 2^31 - 1, -2^31, -1 and 0.
+        (
+            &[
+                0x22, 0x04, 0x08, 0x01, 0x10, 0x7f, 0x22, 0x05, 0x08, 0x01, 0x10, 0x80, 0x01, 0x22,
+                0x08, 0x08, 0x01, 0x10, 0xff, 0xff, 0xff, 0xff, 0x07, 0x22, 0x08, 0x08, 0x01, 0x10,
+                0x80, 0x80, 0x80, 0x80, 0x08, 0x22, 0x0d, 0x08, 0x01, 0x10, 0xff, 0xff, 0xff, 0xff,
+                0xff, 0xff, 0xff, 0xff, 0xff, 0x01, 0x22, 0x04, 0x08, 0x01, 0x10, 0x00,
+            ],
+            "0 0 1:127 2:128 3:2147483647 4:-2147483648 5:-1 6:0",
+        ),
+        // Nothing in a posting, a gap alone, a frequency alone, and both in the other order.
+        (
+            &[
+                0x22, 0x00, 0x22, 0x02, 0x08, 0x03, 0x22, 0x04, 0x10, 0x09, 0x08, 0x02,
+            ],
+            "0 0 0:0 3:0 5:9",
+        ),
+        (
+            &[0x22, 0x02, 0x10, 0x05, 0x22, 0x04, 0x08, 0x01, 0x10, 0x06],
+            "0 0 0:5 1:6",
+        ),
+        // An unknown field behind the frequency and before the gap, and fields that stand twice.
+        (
+            &[
+                0x22, 0x06, 0x08, 0x01, 0x10, 0x02, 0x50, 0x05, 0x22, 0x07, 0x52, 0x01, 0xff, 0x08,
+                0x01, 0x10, 0x03, 0x22, 0x06, 0x08, 0x01, 0x10, 0x05, 0x10, 0x04, 0x22, 0x06, 0x08,
+                0x09, 0x08, 0x01, 0x10, 0x05,
+            ],
+            "0 0 1:2 2:3 3:4 4:5",
+        ),
+        // A tag and lengths of two bytes.
+        (
+            &[
+                0x22, 0x84, 0x00, 0x08, 0x01, 0x10, 0x01, 0xa2, 0x00, 0x04, 0x08, 0x02, 0x10, 0x01,
+                0x22, 0x06, 0x88, 0x00, 0x01, 0x90, 0x00, 0x02,
+            ],
+            "0 0 1:1 3:1 4:2",
+        ),
+        // What is a frequency inside a posting is one of the list behind it.
+        (
+            &[
+                0x22, 0x02, 0x08, 0x01, 0x10, 0x05, 0x22, 0x03, 0x08, 0x81, 0x00, 0x10, 0x06,
+            ],
+            "6 0 1:0 2:0",
+        ),
+        (
+            &[
+                0x22, 0x04, 0x08, 0x01, 0x10, 0x02, 0x10, 0x05, 0x22, 0x05, 0x08, 0x01, 0x10, 0x83,
+                0x00, 0x18, 0x07,
+            ],
+            "5 7 1:2 2:3",
+        ),
+    ];
+    for (row, (list, expected)) in rows.iter().enumerate() {
+        for most in [1, 65536] {
+            let got = told_list(alloc, list, most)?;
+            assert_eq!(rt; got.as_str(), *expected, "row {row}");
+        }
+    }
+    Ok(())
+}
+
+#[test]
+fn postings_of_many_lengths(rt: HostRuntime) -> Result<(), Fail> {
+    let alloc = rt.alloc();
+    let short = [0x22, 0x04, 0x08, 0x01, 0x10, 0x02];
+    // The front of a posting whose unknown field has so many bytes: together 127, 128 and 300.
+    let rows: [(&[u8], usize); 3] = [
+        (&[0x22, 0x7f, 0x08, 0x01, 0x10, 0x01, 0x52, 0x79], 121),
+        (&[0x22, 0x80, 0x01, 0x08, 0x01, 0x10, 0x01, 0x52, 0x7a], 122),
+        (
+            &[0x22, 0xac, 0x02, 0x08, 0x01, 0x10, 0x01, 0x52, 0xa5, 0x02],
+            293,
+        ),
+    ];
+    for (row, (front, rest)) in rows.iter().enumerate() {
+        let mut list = short.to_vec(alloc)?;
+        list.extend_from_slice(front)?;
+        for _ in 0..*rest {
+            list.push(0x22)?;
+        }
+        list.extend_from_slice(&short)?;
+        let got = told_list(alloc, &list, 65536)?;
+        assert_eq!(rt; got.as_str(), "0 0 1:2 2:1 3:2", "row {row}");
+    }
+    Ok(())
+}
+
+#[test]
+fn refused_at_a_posting(rt: HostRuntime) -> Result<(), Fail> {
+    let alloc = rt.alloc();
+    let rows: [(&[u8], Cause); 12] = [
+        // The list ends inside a posting, in its length, its gap or its frequency.
+        (&[0x22], Cause::BadField),
+        (&[0x22, 0x84], Cause::BadField),
+        (&[0x22, 0x04, 0x08, 0x81], Cause::BadField),
+        (&[0x22, 0x04, 0x08, 0x01, 0x10], Cause::BadField),
+        (&[0x22, 0x05, 0x08, 0x01, 0x10, 0x01], Cause::BadField),
+        // A posting ends inside its frequency, whatever follows it.
+        (&[0x22, 0x03, 0x08, 0x01, 0x10, 0x05], Cause::BadField),
+        (&[0x22, 0x04, 0x08, 0x01, 0x10, 0x80, 0x01], Cause::BadField),
+        // A gap of ten bytes that all carry the top bit, and a frequency of four bytes.
+        (
+            &[
+                0x22, 0x0d, 0x08, 0xff, 0xff, 0xff, 0xff, 0xff, 0xff, 0xff, 0xff, 0xff, 0xff, 0x10,
+                0x01,
+            ],
+            Cause::BadField,
+        ),
+        (
+            &[0x22, 0x07, 0x08, 0x01, 0x15, 0x01, 0x00, 0x00, 0x00],
+            Cause::BadField,
+        ),
+        // A gap of -1, a second gap of 0, and document 300.
+        (
+            &[
+                0x22, 0x0d, 0x08, 0xff, 0xff, 0xff, 0xff, 0xff, 0xff, 0xff, 0xff, 0xff, 0x01, 0x10,
+                0x01,
+            ],
+            Cause::BadGap,
+        ),
+        (
+            &[
+                0x22, 0x04, 0x08, 0x01, 0x10, 0x01, 0x22, 0x04, 0x08, 0x00, 0x10, 0x01,
+            ],
+            Cause::BadGap,
+        ),
+        (&[0x22, 0x05, 0x08, 0xac, 0x02, 0x10, 0x01], Cause::BadGap),
+    ];
+    for (row, (list, cause)) in rows.iter().enumerate() {
+        let file = file_of(alloc, list)?;
+        for most in [1, 65536] {
+            let got = refusal(alloc, &file, most)?;
+            assert_eq!(rt; got, Some((6, *cause)), "row {row}");
+        }
+    }
+    Ok(())
+}
