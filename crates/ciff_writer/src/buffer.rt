@@ -42,10 +42,12 @@ impl<const N: usize> Buffer<N> {
     /// Appends what is held.
     pub fn flush<H: Host>(&mut self, host: &mut H, name: &str) -> Result<(), Failed>
         requires { ¬ Lacks (H.seen host.old) name.now }
-        ensures ok { OnOk result (Puts name.now [] [] self.old self.new (H.seen host.old) (H.seen host.new)) }
+        ensures ok { OnOk result
+            (Puts name.now [] [] self.old self.new (H.seen host.old) (H.seen host.new)) }
         ensures empty { OnOk result (self.new ≡ []) }
         ensures there { ¬ Lacks (H.seen host.new) name.now }
-        ensures fault { OnErr result (Breaks name.now [] self.old (H.seen host.old) (H.seen host.new)) }
+        ensures fault { OnErr result
+            (Breaks name.now [] self.old (H.seen host.old) (H.seen host.new)) }
     {
         pieces_join();
         write_all(host, name, &self.room[..self.filled])?;
@@ -63,10 +65,12 @@ impl<const N: usize> Buffer<N> {
     ) -> Result<(), Failed>
         requires within { most ≤ N }
         requires there { ¬ Lacks (H.seen host.old) name.now }
-        ensures ok { OnOk result (Puts name.now [] [] self.old self.new (H.seen host.old) (H.seen host.new)) }
+        ensures ok { OnOk result
+            (Puts name.now [] [] self.old self.new (H.seen host.old) (H.seen host.new)) }
         ensures room { OnOk result (length self.new + most ≤ N) }
         ensures there { ¬ Lacks (H.seen host.new) name.now }
-        ensures fault { OnErr result (Breaks name.now [] self.old (H.seen host.old) (H.seen host.new)) }
+        ensures fault { OnErr result
+            (Breaks name.now [] self.old (H.seen host.old) (H.seen host.new)) }
     {
         if N - self.filled < most {
             self.flush(host, name)?;
@@ -77,9 +81,11 @@ impl<const N: usize> Buffer<N> {
     /// Sends bytes on their way: it holds them, or appends all where they are more than it can hold.
     pub fn send<H: Host>(&mut self, bytes: &[u8], host: &mut H, name: &str) -> Result<(), Failed>
         requires { ¬ Lacks (H.seen host.old) name.now }
-        ensures ok { OnOk result (Puts name.now bytes.now [] self.old self.new (H.seen host.old) (H.seen host.new)) }
+        ensures ok { OnOk result
+            (Puts name.now bytes.now [] self.old self.new (H.seen host.old) (H.seen host.new)) }
         ensures there { ¬ Lacks (H.seen host.new) name.now }
-        ensures fault { OnErr result (Breaks name.now bytes.now self.old (H.seen host.old) (H.seen host.new)) }
+        ensures fault { OnErr result
+            (Breaks name.now bytes.now self.old (H.seen host.old) (H.seen host.new)) }
     {
         pieces_join();
         if N - self.filled < bytes.len() {
@@ -181,7 +187,8 @@ impl<const N: usize> Buffer<N> {
     #[inline]
     pub fn put_posting(&mut self, gap: u32, tf: i32)
         requires { length self.old + 24 ≤ N }
-        ensures { self.new ≡ self.old ++ message_of (bytes_field 4 (message_of (posting_fields gap tf))) }
+        ensures { self.new
+            ≡ self.old ++ message_of (bytes_field 4 (message_of (posting_fields gap tf))) }
     {
         if 0 < tf && tf < 128 && 0 < gap && gap < 16384 {
             if gap < 128 {
@@ -199,7 +206,8 @@ impl<const N: usize> Buffer<N> {
     /// Holds the field of a posting of any gap and frequency.
     fn put_long_posting(&mut self, gap: u32, tf: i32)
         requires { length self.old + 24 ≤ N }
-        ensures { self.new ≡ self.old ++ message_of (bytes_field 4 (message_of (posting_fields gap tf))) }
+        ensures { self.new
+            ≡ self.old ++ message_of (bytes_field 4 (message_of (posting_fields gap tf))) }
     {
         self.put(&[0x22, posting_size(gap, tf) as u8]);
         self.put_number(1, i64::from(gap));

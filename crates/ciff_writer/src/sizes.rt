@@ -39,7 +39,8 @@ pub fn list_size(index: &Index, list: u32) -> u64
 /// The size of a document's message.
 pub fn record_size(index: &Index, doc: u32) -> u64
     requires { doc < length index.now.documents }
-    ensures same { IfSome (slice_get index.now.documents doc) (λ d. result ≡ length (record_bytes doc d)) }
+    ensures same { IfSome (slice_get index.now.documents doc)
+        (λ d. result ≡ length (record_bytes doc d)) }
 {
     number_size(i64::from(doc))
         + text_size(index.name(doc))

@@ -26,9 +26,11 @@ const PIECE: usize = 65536;
 pub fn write_index<H: Host>(index: &Index, host: &mut H, name: &str) -> Result<u64, WriteError>
     requires { ¬ Lacks (H.seen host.old) name.now }
     ensures len { IfOk result (λ n. n ≡ length (bytes_of index.now)) }
-    ensures written { OnOk result (H.seen host.new ≡ grown name.now (bytes_of index.now) (H.seen host.old)) }
+    ensures written { OnOk result
+        (H.seen host.new ≡ grown name.now (bytes_of index.now) (H.seen host.old)) }
     ensures there { ¬ Lacks (H.seen host.new) name.now }
-    ensures fault { OnErr result (AppendedThenFailed name.now (bytes_of index.now) (H.seen host.old) (H.seen host.new)) }
+    ensures fault { OnErr result
+        (AppendedThenFailed name.now (bytes_of index.now) (H.seen host.old) (H.seen host.new)) }
     ensures accepted { Accepted (bytes_of index.now) index.now }
 {
     index.is_sound();
@@ -49,9 +51,11 @@ fn write_file<H: Host, const N: usize>(
     requires there { ¬ Lacks (H.seen host.old) name.now }
     requires room { 128 ≤ N }
     ensures len { IfOk result (λ n. n ≡ length (bytes_of index.now)) }
-    ensures ok { OnOk result (Puts name.now (bytes_of index.now) [] buffer.old [] (H.seen host.old) (H.seen host.new)) }
+    ensures ok { OnOk result
+        (Puts name.now (bytes_of index.now) [] buffer.old [] (H.seen host.old) (H.seen host.new)) }
     ensures there { ¬ Lacks (H.seen host.new) name.now }
-    ensures fault { OnErr result (Breaks name.now (bytes_of index.now) buffer.old (H.seen host.old) (H.seen host.new)) }
+    ensures fault { OnErr result
+        (Breaks name.now (bytes_of index.now) buffer.old (H.seen host.old) (H.seen host.new)) }
 {
     index.is_sound();
     let header = write_header(index, buffer, host, name)?;
@@ -71,9 +75,13 @@ fn write_header<H: Host, const N: usize>(
     requires there { ¬ Lacks (H.seen host.old) name.now }
     requires room { 128 ≤ N }
     ensures len { IfOk result (λ n. n ≡ length (framed (header_bytes index.now))) }
-    ensures ok { OnOk result (Puts name.now (framed (header_bytes index.now)) [] buffer.old buffer.new (H.seen host.old) (H.seen host.new)) }
+    ensures ok { OnOk result
+        (Puts name.now (framed (header_bytes index.now)) [] buffer.old buffer.new
+        (H.seen host.old) (H.seen host.new)) }
     ensures there { ¬ Lacks (H.seen host.new) name.now }
-    ensures fault { OnErr result (Breaks name.now (framed (header_bytes index.now)) buffer.old (H.seen host.old) (H.seen host.new)) }
+    ensures fault { OnErr result
+        (Breaks name.now (framed (header_bytes index.now)) buffer.old (H.seen host.old)
+        (H.seen host.new)) }
 {
     index.is_sound();
     let size = header_size(index);
@@ -88,7 +96,8 @@ fn write_header<H: Host, const N: usize>(
 fn put_header_front<const N: usize>(index: &Index, size: u64, buffer: &mut Buffer<N>)
     requires room { length buffer.old + 96 ≤ N }
     requires size { size ≡ length (header_bytes index.now) }
-    ensures { buffer.new ++ message_of (text_field 8 index.now.header.description) ≡ buffer.old ++ framed (header_bytes index.now) }
+    ensures { buffer.new ++ message_of (text_field 8 index.now.header.description)
+        ≡ buffer.old ++ framed (header_bytes index.now) }
 {
     index.is_sound();
     let header = index.header();
@@ -112,9 +121,13 @@ fn write_lists<H: Host, const N: usize>(
     requires there { ¬ Lacks (H.seen host.old) name.now }
     requires room { 128 ≤ N }
     ensures len { IfOk result (λ n. n ≡ length (lists_bytes index.now.lists)) }
-    ensures ok { OnOk result (Puts name.now (lists_bytes index.now.lists) [] buffer.old buffer.new (H.seen host.old) (H.seen host.new)) }
+    ensures ok { OnOk result
+        (Puts name.now (lists_bytes index.now.lists) [] buffer.old buffer.new (H.seen host.old)
+        (H.seen host.new)) }
     ensures there { ¬ Lacks (H.seen host.new) name.now }
-    ensures fault { OnErr result (Breaks name.now (lists_bytes index.now.lists) buffer.old (H.seen host.old) (H.seen host.new)) }
+    ensures fault { OnErr result
+        (Breaks name.now (lists_bytes index.now.lists) buffer.old (H.seen host.old)
+        (H.seen host.new)) }
 {
     index.is_sound();
     let mut len = 0;
@@ -134,9 +147,13 @@ fn write_records<H: Host, const N: usize>(
     requires there { ¬ Lacks (H.seen host.old) name.now }
     requires room { 128 ≤ N }
     ensures len { IfOk result (λ n. n ≡ length (records_from 0 index.now.documents)) }
-    ensures ok { OnOk result (Puts name.now (records_from 0 index.now.documents) [] buffer.old buffer.new (H.seen host.old) (H.seen host.new)) }
+    ensures ok { OnOk result
+        (Puts name.now (records_from 0 index.now.documents) [] buffer.old buffer.new
+        (H.seen host.old) (H.seen host.new)) }
     ensures there { ¬ Lacks (H.seen host.new) name.now }
-    ensures fault { OnErr result (Breaks name.now (records_from 0 index.now.documents) buffer.old (H.seen host.old) (H.seen host.new)) }
+    ensures fault { OnErr result
+        (Breaks name.now (records_from 0 index.now.documents) buffer.old (H.seen host.old)
+        (H.seen host.new)) }
 {
     index.is_sound();
     let mut len = 0;
@@ -157,10 +174,17 @@ fn write_list<H: Host, const N: usize>(
     requires there { ¬ Lacks (H.seen host.old) name.now }
     requires room { 128 ≤ N }
     requires inside { list < length index.now.lists }
-    ensures len { IfOk result (λ n. IfSome (slice_get index.now.lists list) (λ l. n ≡ length (framed (list_bytes l)))) }
-    ensures ok { OnOk result (IfSome (slice_get index.now.lists list) (λ l. Puts name.now (framed (list_bytes l)) [] buffer.old buffer.new (H.seen host.old) (H.seen host.new))) }
+    ensures len { IfOk result
+        (λ n. IfSome (slice_get index.now.lists list) (λ l. n ≡ length (framed (list_bytes l)))) }
+    ensures ok { OnOk result
+        (IfSome (slice_get index.now.lists list)
+        (λ l. Puts name.now (framed (list_bytes l)) [] buffer.old buffer.new (H.seen host.old)
+        (H.seen host.new))) }
     ensures there { ¬ Lacks (H.seen host.new) name.now }
-    ensures fault { OnErr result (IfSome (slice_get index.now.lists list) (λ l. Breaks name.now (framed (list_bytes l)) buffer.old (H.seen host.old) (H.seen host.new))) }
+    ensures fault { OnErr result
+        (IfSome (slice_get index.now.lists list)
+        (λ l. Breaks name.now (framed (list_bytes l)) buffer.old (H.seen host.old)
+        (H.seen host.new))) }
 {
     index.is_sound();
     let size = list_size(index, list);
@@ -184,9 +208,13 @@ fn write_postings<H: Host, const N: usize>(
     requires there { ¬ Lacks (H.seen host.old) name.now }
     requires room { 128 ≤ N }
     requires rising { IsStrictlyIncreasing (map (λ posting. posting.doc) postings.now) }
-    ensures ok { OnOk result (Puts name.now (message_of (postings_fields 0 postings.now)) [] buffer.old buffer.new (H.seen host.old) (H.seen host.new)) }
+    ensures ok { OnOk result
+        (Puts name.now (message_of (postings_fields 0 postings.now)) [] buffer.old buffer.new
+        (H.seen host.old) (H.seen host.new)) }
     ensures there { ¬ Lacks (H.seen host.new) name.now }
-    ensures fault { OnErr result (Breaks name.now (message_of (postings_fields 0 postings.now)) buffer.old (H.seen host.old) (H.seen host.new)) }
+    ensures fault { OnErr result
+        (Breaks name.now (message_of (postings_fields 0 postings.now)) buffer.old
+        (H.seen host.old) (H.seen host.new)) }
 {
     let mut before = 0;
     for posting in postings {
@@ -209,10 +237,18 @@ fn write_record<H: Host, const N: usize>(
     requires there { ¬ Lacks (H.seen host.old) name.now }
     requires room { 128 ≤ N }
     requires inside { doc < length index.now.documents }
-    ensures len { IfOk result (λ n. IfSome (slice_get index.now.documents doc) (λ d. n ≡ length (framed (record_bytes doc d)))) }
-    ensures ok { OnOk result (IfSome (slice_get index.now.documents doc) (λ d. Puts name.now (framed (record_bytes doc d)) [] buffer.old buffer.new (H.seen host.old) (H.seen host.new))) }
+    ensures len { IfOk result
+        (λ n. IfSome (slice_get index.now.documents doc)
+        (λ d. n ≡ length (framed (record_bytes doc d)))) }
+    ensures ok { OnOk result
+        (IfSome (slice_get index.now.documents doc)
+        (λ d. Puts name.now (framed (record_bytes doc d)) [] buffer.old buffer.new
+        (H.seen host.old) (H.seen host.new))) }
     ensures there { ¬ Lacks (H.seen host.new) name.now }
-    ensures fault { OnErr result (IfSome (slice_get index.now.documents doc) (λ d. Breaks name.now (framed (record_bytes doc d)) buffer.old (H.seen host.old) (H.seen host.new))) }
+    ensures fault { OnErr result
+        (IfSome (slice_get index.now.documents doc)
+        (λ d. Breaks name.now (framed (record_bytes doc d)) buffer.old (H.seen host.old)
+        (H.seen host.new))) }
 {
     index.is_sound();
     let size = record_size(index, doc);
@@ -237,9 +273,13 @@ fn write_text<H: Host, const N: usize>(
     requires room { 128 ≤ N }
     requires some { 0 < number }
     requires most { number < 16 }
-    ensures ok { OnOk result (Puts name.now (message_of (text_field number text.now)) [] buffer.old buffer.new (H.seen host.old) (H.seen host.new)) }
+    ensures ok { OnOk result
+        (Puts name.now (message_of (text_field number text.now)) [] buffer.old buffer.new
+        (H.seen host.old) (H.seen host.new)) }
     ensures there { ¬ Lacks (H.seen host.new) name.now }
-    ensures fault { OnErr result (Breaks name.now (message_of (text_field number text.now)) buffer.old (H.seen host.old) (H.seen host.new)) }
+    ensures fault { OnErr result
+        (Breaks name.now (message_of (text_field number text.now)) buffer.old (H.seen host.old)
+        (H.seen host.new)) }
 {
     if text.is_empty() {
         return Ok(());
