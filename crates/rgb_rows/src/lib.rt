@@ -1,2 +1,15 @@
-//! The worked rows of the commands, run over a host in memory. Those over the whole reader are to come.
+//! The worked rows of the commands, run over a host in memory.
 #![tactic(auto)]
+
+#[cfg(test)]
+mod copy;
+#[cfg(test)]
+mod fields;
+#[cfg(test)]
+mod renumbering;
+#[cfg(test)]
+mod report;
+#[cfg(test)]
+mod warnings;
+#[cfg(test)]
+mod words;

@@ -1,0 +1,137 @@
+//! Rows in which one call of the host fails, for each call in turn until none is left to fail.
+use rgb_host::MemoryHost;
+use rgb_runs::{SIX, Setting, bytes_of, has_told, run};
+use std::test::Fail;
+use std::thread::Threads;
+
+/// How many bytes a call gives or takes at most.
+const MOSTS: [u32; 3] = [1, 4, 65536];
+
+/// The calls that fail.
+#[derive(Clone, Copy)]
+enum Calls {
+    Reads,
+    Writes,
+}
+
+impl Calls {
+    // The calls of these numbers fail.
+    fn failing(self, numbers: &[u64], most: u32) -> Setting<'_> {
+        match self {
+            Calls::Reads => Setting {
+                failing_reads: numbers,
+                failing_writes: &[],
+                most,
+            },
+            Calls::Writes => Setting {
+                failing_reads: &[],
+                failing_writes: numbers,
+                most,
+            },
+        }
+    }
+}
+
+/// A command over `SIX`, the bytes that it writes, and the text that it prints.
+#[derive(Clone, Copy)]
+struct Command<'a> {
+    words: &'a str,
+    written: &'a [u8],
+    printed: &'a str,
+}
+
+impl Command<'_> {
+    // Whether the file and the text stand whole, and nothing was warned.
+    fn is_whole(&self, host: &MemoryHost) -> bool {
+        host.file("out").unwrap_or(b"") == self.written && has_told(host, self.printed, "")
+    }
+
+    // Whether they are fronts of them, and no text was printed before the file was whole.
+    fn is_cut_off(&self, host: &MemoryHost) -> bool {
+        let written = host.file("out").unwrap_or(b"");
+        self.written.starts_with(written)
+            && self.printed.as_bytes().starts_with(host.printed())
+            && (host.printed().is_empty() || written == self.written)
+            && host.warned() == b"write fault\n".as_slice()
+    }
+
+    // Whether the command ended as it has to where such a call failed.
+    fn is_broken_off(&self, calls: Calls, status: u8, host: &MemoryHost) -> bool {
+        match calls {
+            Calls::Reads => {
+                status == 4 && host.file("out").is_none() && has_told(host, "", "read fault\n")
+            }
+            Calls::Writes => status == 5 && self.is_cut_off(host),
+        }
+    }
+}
+
+// How many calls can fail; nothing where a run ends in another way than it has to.
+fn failing_calls<R: Threads + Sync + AllocGlobal>(
+    rt: &R,
+    command: Command<'_>,
+    six: &[u8],
+    calls: Calls,
+    most: u32,
+) -> Result<Option<u64>, Fail> {
+    for call in 1..1000 {
+        let (status, host) = run(rt, command.words, six, calls.failing(&[call], most))?;
+        if status == 0 && command.is_whole(&host) {
+            return Ok(Some(call - 1));
+        }
+        if !command.is_broken_off(calls, status, &host) {
+            return Ok(None);
+        }
+    }
+    Ok(None)
+}
+
+// Whether each call can fail, whatever a call gives or takes at most.
+fn each_can_fail<R: Threads + Sync + AllocGlobal>(
+    rt: &R,
+    command: Command<'_>,
+    six: &[u8],
+) -> Result<bool, Fail> {
+    for most in MOSTS {
+        if failing_calls(rt, command, six, Calls::Reads, most)?.is_none()
+            || failing_calls(rt, command, six, Calls::Writes, most)?.is_none()
+        {
+            return Ok(false);
+        }
+    }
+    Ok(true)
+}
+
+#[test]
+fn each_call_of_copy(rt: HostRuntime) -> Result<(), Fail> {
+    let six = bytes_of(rt.alloc(), SIX)?;
+    let command = Command {
+        words: "copy in out",
+        written: &six,
+        printed: "documents 6 lists 2 postings 6\n",
+    };
+    assert!(rt; each_can_fail(&rt, command, &six)?);
+    // One creation, 109 bytes and 31 printed ones, byte by byte.
+    assert_eq!(rt;
+        failing_calls(&rt, command, &six, Calls::Writes, 1)?,
+        Some(141)
+    );
+    Ok(())
+}
+
+#[test]
+fn each_call_of_report(rt: HostRuntime) -> Result<(), Fail> {
+    let six = bytes_of(rt.alloc(), SIX)?;
+    let command = Command {
+        words: "report in",
+        written: b"",
+        printed: "documents 6 lists 2 postings 6\ngamma 12 delta 15 bytes 6\n",
+    };
+    assert!(rt; each_can_fail(&rt, command, &six)?);
+    // 57 printed bytes, byte by byte.
+    assert_eq!(rt;
+        failing_calls(&rt, command, &six, Calls::Writes, 1)?,
+        Some(57)
+    );
+    Ok(())
+}

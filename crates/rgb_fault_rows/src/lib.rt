@@ -1,0 +1,5 @@
+//! Rows in which each call of the host fails in turn.
+#![tactic(auto)]
+
+#[cfg(test)]
+mod faults;

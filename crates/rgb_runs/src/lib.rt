@@ -1,0 +1,144 @@
+//! Runs of the top call over a host in memory, for the crates of worked rows.
+#![tactic(auto)]
+
+use rgb_app::run_plain;
+use rgb_host::{FileMap, MemoryHost, Numbers};
+use std::alloc::Global;
+use std::collections::BTreeMap;
+use std::test::Fail;
+use std::thread::Threads;
+
+/// Which calls of the host fail, and how many bytes a call gives or takes at most.
+#[derive(Clone, Copy)]
+pub struct Setting<'a> {
+    pub failing_reads: &'a [u64],
+    pub failing_writes: &'a [u64],
+    pub most: u32,
+}
+
+/// No call fails.
+pub const ALL_WELL: Setting<'static> = Setting {
+    failing_reads: &[],
+    failing_writes: &[],
+    most: 65536,
+};
+
+/// A run over a host whose file `in` has these bytes, and what it has to leave. Bytes are written as two
+/// hexadecimal digits each, and bytes and words are parted by blanks.
+#[derive(Clone, Copy)]
+pub struct Row<'a> {
+    pub words: &'a str,
+    pub input: &'a str,
+    pub setting: Setting<'a>,
+    pub status: u8,
+    /// The bytes of the file `out`, or nothing where there is none.
+    pub output: Option<&'a str>,
+    pub printed: &'a str,
+    pub warned: &'a str,
+}
+
+/// One list of one posting, and one document: 25 bytes.
+pub const ONE: &str = "06 08 01 10 01 18 01 0b 0a 01 61 10 01 18 02 22 02 10 02 05 12 01 78 18 02";
+
+/// Two lists of three postings, and six documents: 109 bytes.
+pub const SIX: &str =
+    "06 08 01 10 02 18 06 17 0a 01 61 10 03 18 03 22 02 10 01 22 04 08 01 10 01 22 \
+    04 08 02 10 01 19 0a 01 62 10 03 18 03 22 04 08 02 10 01 22 04 08 02 10 01 22 04 08 01 10 01 06 \
+    12 02 64 30 18 01 08 08 01 12 02 64 31 18 01 08 08 02 12 02 64 32 18 01 08 08 03 12 02 64 33 18 \
+    01 08 08 04 12 02 64 34 18 01 08 08 05 12 02 64 35 18 01";
+
+/// The bytes that are written as two hexadecimal digits each.
+pub fn bytes_of(alloc: Global, text: &str) -> Result<Vec<u8>, Fail> {
+    let mut bytes = Vec::new(alloc);
+    for digits in text.split_whitespace() {
+        bytes.push(u8::from_str_radix(digits, 16)?)?;
+    }
+    Ok(bytes)
+}
+
+/// The words that blanks part.
+pub fn words_of(alloc: Global, text: &str) -> Result<Vec<String>, Fail> {
+    let mut words = Vec::new(alloc);
+    for word in text.split_whitespace() {
+        words.push(String::from_str(alloc, word)?)?;
+    }
+    Ok(words)
+}
+
+/// A host whose file `in` has these bytes.
+pub fn host_with(alloc: Global, bytes: &[u8], setting: Setting<'_>) -> Result<MemoryHost, Fail> {
+    let mut files = BTreeMap::new(alloc);
+    files.insert(String::from_str(alloc, "in")?, bytes.to_vec(alloc)?)?;
+    let reads = Numbers::of(setting.failing_reads.to_vec(alloc)?);
+    let writes = Numbers::of(setting.failing_writes.to_vec(alloc)?);
+    Ok(MemoryHost::new(
+        alloc,
+        FileMap::of(files),
+        reads,
+        writes,
+        setting.most.max(1),
+    ))
+}
+
+/// The status of a command over a host whose file `in` has these bytes, and that host.
+pub fn run<R: Threads + Sync + AllocGlobal>(
+    rt: &R,
+    words: &str,
+    bytes: &[u8],
+    setting: Setting<'_>,
+) -> Result<(u8, MemoryHost), Fail> {
+    let words = words_of(rt.alloc(), words)?;
+    let mut host = host_with(rt.alloc(), bytes, setting)?;
+    let status = run_plain(rt, rt.alloc(), &words, &mut host);
+    Ok((status, host))
+}
+
+/// Whether a run leaves what it has to leave, and the file `in` as it was.
+pub fn is_met<R: Threads + Sync + AllocGlobal>(rt: &R, row: &Row<'_>) -> Result<bool, Fail> {
+    let bytes = bytes_of(rt.alloc(), row.input)?;
+    let (status, host) = run(rt, row.words, &bytes, row.setting)?;
+    Ok(
+        status == row.status
+            && has_told(&host, row.printed, row.warned)
+            && has_file(&host, "in", Some(&bytes))
+            && has_written(rt.alloc(), &host, row.output)?,
+    )
+}
+
+/// Whether these texts were printed and warned.
+pub fn has_told(host: &MemoryHost, printed: &str, warned: &str) -> bool {
+    host.printed() == printed.as_bytes() && host.warned() == warned.as_bytes()
+}
+
+/// Whether the file has these bytes, or isn't there.
+pub fn has_file(host: &MemoryHost, name: &str, bytes: Option<&[u8]>) -> bool {
+    host.file(name) == bytes
+}
+
+// Whether the file `out` has these bytes, or isn't there.
+fn has_written(alloc: Global, host: &MemoryHost, output: Option<&str>) -> Result<bool, Fail> {
+    match output {
+        None => Ok(has_file(host, "out", None)),
+        Some(text) => {
+            let bytes = bytes_of(alloc, text)?;
+            Ok(has_file(host, "out", Some(&bytes)))
+        }
+    }
+}
+
+/// Whether a command over these bytes ends with status 3 and warns this line, and nothing is created or
+/// printed.
+pub fn is_refused<R: Threads + Sync + AllocGlobal>(
+    rt: &R,
+    words: &str,
+    bytes: &[u8],
+    line: &str,
+) -> Result<bool, Fail> {
+    let (status, host) = run(rt, words, bytes, ALL_WELL)?;
+    Ok(
+        status == 3
+            && has_told(&host, "", line)
+            && has_file(&host, "in", Some(bytes))
+            && has_file(&host, "out", None),
+    )
+}
