@@ -1,0 +1,16 @@
+pub mod Blocks
+pub mod Built
+pub mod Cells
+pub mod Filling
+pub mod Marks
+pub mod Meaning
+pub mod Names
+pub mod Numbered
+pub mod One
+pub mod Pieces
+pub mod Rows
+pub mod Starts
+pub mod Steps
+pub mod Sums
+pub mod Twice
+pub mod StartOne

@@ -1,0 +1,7 @@
+pub mod Forward
+pub mod Flat
+pub mod Rows
+pub mod Marks
+pub mod Start
+pub mod Cell
+pub mod Laws

@@ -1,0 +1,16 @@
+//! The forward index: the documents of an index as lists of their terms.
+#![tactic(auto)]
+
+mod build;
+mod cell;
+mod count;
+mod fill;
+mod forward;
+pub mod laws;
+mod start;
+
+pub use forward::Forward;
+pub use start::start_by_name;
+
+#[cfg(test)]
+mod tests;
