@@ -1,0 +1,12 @@
+mod Distinct
+mod Touched
+mod Pairs
+mod Marked
+mod Whole
+mod Rows
+mod Sides
+mod Sums
+mod Kept
+mod Total
+mod Costs
+mod Cells
