@@ -1,0 +1,11 @@
+pub mod Totals
+pub mod Moved
+pub mod Exchanged
+pub mod Bounds
+pub mod Ranked
+pub mod RowGains
+pub mod Many
+pub mod Cascade
+pub mod Outcome
+pub mod Rounds
+pub mod Cells

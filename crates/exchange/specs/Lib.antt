@@ -1,0 +1,5 @@
+pub mod Gain
+pub mod Pairs
+pub mod Round
+pub mod Halving
+pub mod Tries

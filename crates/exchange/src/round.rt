@@ -1,0 +1,180 @@
+//! One round of exchanges.
+ghost use Rattle.std.specs.Prelude.{◌≡◌, ◌≢◌, ◌++◌, ◌<◌, ◌≤◌, length, All, AllPairs, IsPermutation};
+ghost use Rattle.rgb_base.specs.Order.{AreNumbers};
+ghost use Rattle.forward_index.specs.Forward.{row_at};
+ghost use Rattle.degrees.specs.Counts.{IsCountedIn, loaded, cost_of};
+ghost use Rattle.exchange.specs.Gain.{IsReady};
+ghost use Rattle.exchange.specs.Round.{IsRound};
+ghost use Rattle.exchange.specs.Halving.{half_a, half_b};
+ghost use Rattle.exchange.specs.Tries.{docs_of, HasGain, StandsBefore, IsLow};
+
+use crate::entry::{Entry, gaining_pairs, put_half, rank};
+use crate::ground::Ground;
+use crate::moves::fill_shared;
+use crate::scratch::Scratch;
+use crate::tries::first_less;
+use degrees::Degrees;
+use rgb_base::Side;
+use std::thread::Threads;
+
+/// The costs of the halves before and after an exchange, and how many pairs changed places.
+#[derive(Clone, Copy)]
+pub struct Kept {
+    pub before: i128,
+    pub after: i128,
+    pub pairs: u32,
+}
+
+/// What a round answers: the exchange that was kept; or that none costs less, with the cost of the
+/// first one tried; or that no pair gains anything.
+#[derive(Clone, Copy)]
+pub enum Round {
+    Kept(Kept),
+    Refused(Kept),
+    Still,
+}
+
+/// Makes one round of exchanges between the halves of a cell: the first half of its documents, with
+/// the one more where their number is odd, and the rest, each in start order. The table has their
+/// degrees, and has those of the new halves afterwards. Takes no memory.
+pub fn one_round<R: Threads + Sync>(
+    rt: &R,
+    ground: &Ground<'_>,
+    degrees: &mut Degrees,
+    docs: &mut [u32],
+    scratch: &mut Scratch,
+) -> Round
+    requires top { length ground.now.forward.now.rows < ground.now.logs.now }
+    requires some { 2 ≤ length docs.old }
+    requires places { AreNumbers (length ground.now.forward.now.rows) docs.old }
+    requires table { degrees.old ≡ loaded
+        ground.now.forward.now (half_a docs.old) (half_b docs.old) degrees.old.loads }
+    requires room { length docs.old ≤ scratch.old }
+    ensures round { IsRound ground.now.forward.now
+        (half_a docs.old) (half_b docs.old) result (half_a docs.new) (half_b docs.new) }
+    ensures loaded { degrees.new ≡ loaded
+        ground.now.forward.now (half_a docs.new) (half_b docs.new) degrees.old.loads }
+    ensures same { IsPermutation docs.old docs.new }
+    ensures room { scratch.new ≡ scratch.old }
+{
+    let before = loaded_cost(ground, degrees, docs);
+    round_from(rt, ground, degrees, docs, scratch, before)
+}
+
+/// The cost of the halves of a cell of which the table has the degrees.
+pub(crate) fn loaded_cost(ground: &Ground<'_>, degrees: &Degrees, docs: &[u32]) -> i128
+    requires top { length ground.now.forward.now.rows < ground.now.logs.now }
+    requires some { 2 ≤ length docs.now }
+    requires places { AreNumbers (length ground.now.forward.now.rows) docs.now }
+    requires table { degrees.now ≡ loaded
+        ground.now.forward.now (half_a docs.now) (half_b docs.now) degrees.now.loads }
+    ensures same { result ≡ cost_of degrees.now }
+{
+    let _ = docs;
+    degrees.cost(ground.logs)
+}
+
+/// The same with the cost of the halves.
+pub(crate) fn round_from<R: Threads + Sync>(
+    rt: &R,
+    ground: &Ground<'_>,
+    degrees: &mut Degrees,
+    docs: &mut [u32],
+    scratch: &mut Scratch,
+    before: i128,
+) -> Round
+    requires top { length ground.now.forward.now.rows < ground.now.logs.now }
+    requires some { 2 ≤ length docs.old }
+    requires places { AreNumbers (length ground.now.forward.now.rows) docs.old }
+    requires table { degrees.old ≡ loaded
+        ground.now.forward.now (half_a docs.old) (half_b docs.old) degrees.old.loads }
+    requires room { length docs.old ≤ scratch.old }
+    requires before { before ≡ cost_of degrees.old }
+    ensures round { IsRound ground.now.forward.now
+        (half_a docs.old) (half_b docs.old) result (half_a docs.new) (half_b docs.new) }
+    ensures loaded { degrees.new ≡ loaded
+        ground.now.forward.now (half_a docs.new) (half_b docs.new) degrees.old.loads }
+    ensures same { IsPermutation docs.old docs.new }
+    ensures room { scratch.new ≡ scratch.old }
+{
+    let middle = docs.len() - docs.len() / 2;
+    let (a, b) = docs.split_at_mut(middle);
+    let (entries_a, rest) = scratch.entries.split_at_mut(middle);
+    let entries_b = &mut rest[..b.len()];
+    round_of_halves(rt, ground, degrees, a, b, entries_a, entries_b, before)
+}
+
+/// Ranks the documents of a half by their gains.
+fn rank_half<R: Threads + Sync>(
+    rt: &R,
+    ground: &Ground<'_>,
+    degrees: &Degrees,
+    docs: &[u32],
+    from: Side,
+    entries: &mut [Entry],
+)
+    requires len { length entries.old ≡ length docs.now }
+    requires terms { length degrees.now.a ≡ ground.now.forward.now.terms }
+    requires below { All (λ doc. doc < length ground.now.forward.now.rows) docs.now }
+    requires differ { AllPairs (λ a b. a ≢ b) docs.now }
+    requires counted { All (λ doc. IsCountedIn from
+        (row_at ground.now.forward.now.rows doc) degrees.now) docs.now }
+    requires ready { IsReady ground.now.logs.now degrees.now }
+    ensures same { IsPermutation docs.now (docs_of entries.new) }
+    ensures gains { All (HasGain from degrees.now ground.now.forward.now.rows) entries.new }
+    ensures low { All IsLow entries.new }
+    ensures ranked { AllPairs StandsBefore entries.new }
+{
+    fill_shared(rt, ground, degrees, docs, from, entries, ground.workers);
+    rank(entries);
+}
+
+/// One round of two halves of which the table has the degrees, with their cost and room for an
+/// entry a document.
+fn round_of_halves<R: Threads + Sync>(
+    rt: &R,
+    ground: &Ground<'_>,
+    degrees: &mut Degrees,
+    a: &mut [u32],
+    b: &mut [u32],
+    entries_a: &mut [Entry],
+    entries_b: &mut [Entry],
+    before: i128,
+) -> Round
+    requires top { length ground.now.forward.now.rows < ground.now.logs.now }
+    requires some { 0 < length a.old }
+    requires some_b { 0 < length b.old }
+    requires places { AreNumbers (length ground.now.forward.now.rows) (a.old ++ b.old) }
+    requires room { length entries_a.old ≡ length a.old }
+    requires room_b { length entries_b.old ≡ length b.old }
+    requires table { degrees.old
+        ≡ loaded ground.now.forward.now a.old b.old degrees.old.loads }
+    requires before { before ≡ cost_of degrees.old }
+    ensures round { IsRound ground.now.forward.now a.old b.old result a.new b.new }
+    ensures loaded { degrees.new
+        ≡ loaded ground.now.forward.now a.new b.new degrees.old.loads }
+    ensures same { IsPermutation (a.old ++ b.old) (a.new ++ b.new) }
+{
+    ground.forward.is_sound();
+    rank_half(rt, ground, degrees, a, Side::A, entries_a);
+    rank_half(rt, ground, degrees, b, Side::B, entries_b);
+    let pairs = gaining_pairs(entries_a, entries_b);
+    if pairs == 0 {
+        return Round::Still;
+    }
+    let last = first_less(ground, degrees, entries_a, entries_b, pairs, before);
+    if last.pairs == 0 {
+        return Round::Refused(Kept {
+            before,
+            after: last.first,
+            pairs: pairs as u32,
+        });
+    }
+    put_half(a, last.pairs, entries_a, entries_b);
+    put_half(b, last.pairs, entries_b, entries_a);
+    Round::Kept(Kept {
+        before,
+        after: last.after,
+        pairs: last.pairs as u32,
+    })
+}
