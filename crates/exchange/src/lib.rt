@@ -14,6 +14,3 @@ pub use halving::{KeptList, halve};
 pub use moves::{gain, gains};
 pub use round::{Kept, Round, one_round};
 pub use scratch::Scratch;
-
-#[cfg(test)]
-mod tests;

@@ -11,6 +11,3 @@ mod start;
 
 pub use forward::Forward;
 pub use start::start_by_name;
-
-#[cfg(test)]
-mod tests;
