@@ -9,7 +9,8 @@ use Rattle.ciff_reader.specs.declared.record.RecordFields.{RecordFields}
 -- ---- any message
 
 -- one more field: what is kept then says the fields with it, or it has a wrong wire type
-abbrev pub TakesField : {S : Type 0} → List Known → (List Entry → S → Type 0) → Entry → S → Option S → Type 0
+abbrev pub TakesField : {S : Type 0} → List Known → (List Entry → S → Type 0)
+    → Entry → S → Option S → Type 0
 TakesField table Says entry before None = ¬ HasItsType table entry
 TakesField table Says entry before (Some after) =
     HasItsType table entry
@@ -23,7 +24,8 @@ pub record ReadAs {S : Type 0} (table : List Known) (Says : List Entry → S →
   pub says : Says fields kept
 
 -- this is kept of the message's fields, or it has none
-abbrev pub IsReadAs : {S : Type 0} → List Known → (List Entry → S → Type 0) → List ℕ → Option S → Type 0
+abbrev pub IsReadAs : {S : Type 0} → List Known → (List Entry → S → Type 0)
+    → List ℕ → Option S → Type 0
 IsReadAs table Says message None = (fields : List Entry) → ¬ HasFields table message fields
 IsReadAs table Says message (Some kept) = ReadAs table Says message kept
 

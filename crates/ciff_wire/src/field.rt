@@ -51,7 +51,8 @@ const LARGEST_NUMBER: u64 = (1 << 29) - 1;
 pub fn next_field<'a>(bytes: &'a [u8]) -> Result<Option<(Field<'a>, usize)>, FieldFault>
     ensures none { IfOk result (λ taken. IfNone taken (bytes.now ≡ [])) }
     ensures within { IfOk result (λ taken. IfSome taken (λ t. t.1 ≤ length bytes.now)) }
-    ensures field { IfOk result (λ taken. IfSome taken (λ t. SpellsField (take t.1 bytes.now) (entry_of t.0))) }
+    ensures field { IfOk result
+        (λ taken. IfSome taken (λ t. SpellsField (take t.1 bytes.now) (entry_of t.0))) }
     ensures fault { IfErr result (IsFault bytes.now) }
 {
     if bytes.is_empty() {
@@ -91,7 +92,8 @@ fn take_tag(bytes: &[u8]) -> Result<Tag, FieldFault>
     requires { 0 < length bytes.now }
     ensures within { IfOk result (λ tag. tag.used ≤ length bytes.now) }
     ensures number { IfOk result (λ tag. IsNumber tag.number) }
-    ensures tag { IfOk result (λ tag. Reads bytes.now (tag.number * 8 + number_of_wire tag.wire) tag.used) }
+    ensures tag { IfOk result
+        (λ tag. Reads bytes.now (tag.number * 8 + number_of_wire tag.wire) tag.used) }
     ensures fault { IfErr result (IsFault bytes.now) }
 {
     match read_varint(bytes) {

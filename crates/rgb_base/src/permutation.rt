@@ -65,6 +65,7 @@ impl Permutation {
     }
 
     /// The new number of an old one.
+    #[inline]
     pub fn new_of(&self, old: u32) -> u32
         requires { old < length self.now }
         ensures same { result ≡ new_of self.now old }
@@ -74,6 +75,7 @@ impl Permutation {
     }
 
     /// The old number of a new one.
+    #[inline]
     pub fn old_of(&self, new: u32) -> u32
         requires { new < length self.now }
         ensures same { slice_get self.now new ≡ Some result }
