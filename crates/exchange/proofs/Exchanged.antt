@@ -57,10 +57,10 @@ cut_at (y ∷ ys) x (suc k, within, at) =
     let rest = cut_at ys x (k, omega (arith, within), at) in
     (y ∷ rest.0, rest.1, ap (λ (zs : List ℕ). y ∷ zs) rest.2)
 
-first_there : (x : ℕ) (xs : List ℕ) → Contains (x ∷ xs) x
+pub first_there : (x : ℕ) (xs : List ℕ) → Contains (x ∷ xs) x
 first_there x xs = (0, omega arith, refl)
 
-later_there : (x z : ℕ) (xs : List ℕ) → Contains xs z → Contains (x ∷ xs) z
+pub later_there : (x z : ℕ) (xs : List ℕ) → Contains xs z → Contains (x ∷ xs) z
 later_there x z xs there = (suc there.0, omega (arith, there.1), there.2)
 
 without : (us vs : List ℕ) (x z : ℕ) → Contains (us ++ x ∷ vs) z → x ≢ z → Contains (us ++ vs) z
@@ -71,7 +71,7 @@ without us vs x z there apart =
       | inr (suc k, within, at) ↦ Contains-append_right us vs z (k, omega (arith, within), at)
     ]
 
-head_apart : (x z : ℕ) (xs : List ℕ) → Differ (x ∷ xs) → Contains xs z → x ≢ z
+pub head_apart : (x z : ℕ) (xs : List ℕ) → Differ (x ∷ xs) → Contains xs z → x ≢ z
 head_apart x z xs differ there same =
     differ 0 (suc there.0) z (omega arith) (omega (arith, there.1)) (same ∙ sym there.2)
 

@@ -18,7 +18,8 @@ use Rattle.degrees.specs.Counts.{Counted, IsCounted, counts_in, IsCountedIn, mov
 use Rattle.exchange.specs.Gain.{gain_of, IsReady}
 use Rattle.exchange.specs.Tries.{all_less, all_more, all_across, docs_of, IsWithin, AreCountedIn}
 use Rattle.exchange.specs.declared.entry.Entry.{Entry}
-use Rattle.exchange.proofs.Ranked.{no_entry, doc_at}
+use Rattle.exchange.specs.Tries.{no_entry}
+use Rattle.exchange.proofs.Ranked.{doc_at}
 use Rattle.exchange.proofs.Moved.{made_at, across_one, cost_after, all_below}
 use Rattle.exchange.proofs.Bounds.{part_small, total_small}
 use Rattle.exchange.proofs.RowGains.{row_is, within_weaker, within_sum}

@@ -25,7 +25,8 @@ use Rattle.exchange.specs.Tries.{docs_of, entry_of, HasGain, StandsBefore, gaini
 use Rattle.exchange.proofs.Totals.{total_by-same}
 use Rattle.exchange.proofs.Moved.{made_at, degree-permutation, degrees_of-same, cost-counted}
 use Rattle.exchange.proofs.Exchanged.{Differ, Differ-permutation, both_after, length_after, permutation_from_half, half_from_permutation, exchanged_from_halves, half_a_from_exchanged, half_b_from_exchanged}
-use Rattle.exchange.proofs.Ranked.{no_entry, doc_at}
+use Rattle.exchange.specs.Tries.{no_entry}
+use Rattle.exchange.proofs.Ranked.{doc_at}
 use Rattle.exchange.proofs.RowGains.{row_is}
 use Rattle.exchange.proofs.Many.{degree_more, degree_front, has_own}
 use Rattle.std.proofs.lemmas.Bool.{eqb-true}
@@ -111,7 +112,7 @@ zero_is n low = omega arith
 same_is : (m n : ℕ) → m ≤ n → n ≤ m → m ≡ n
 same_is m n low high = omega arith
 
-same_tables : (a x b y : List ℕ) (m m_new n n_new loads : ℕ) → a ≡ x → b ≡ y → m ≡ m_new → n ≡ n_new
+pub same_tables : (a x b y : List ℕ) (m m_new n n_new loads : ℕ) → a ≡ x → b ≡ y → m ≡ m_new → n ≡ n_new
     → (let t : Counted = record { a = a; b = b; len_a = m; len_b = n; loads = loads } in t) ≡ (let t : Counted = record { a = x; b = y; len_a = m_new; len_b = n_new; loads = loads } in t)
 same_tables a x b y m m_new n n_new loads same_a same_b same_m same_n = cc
 

@@ -14,11 +14,8 @@ use Rattle.std.proofs.lemmas.List.Sorted.{sorted_far, ranks_by}
 use Rattle.std.proofs.lemmas.List.Sums.{prefix_len_is}
 use Rattle.std.proofs.lemmas.Slice.Zip.{length-zip, get_or-zip}
 use Rattle.exchange.specs.declared.entry.Entry.{Entry}
-use Rattle.exchange.specs.Tries.{docs_of, StandsBefore, gaining}
+use Rattle.exchange.specs.Tries.{docs_of, no_entry, StandsBefore, gaining}
 use Rattle.exchange.proofs.Exchanged.{Differ}
-
-abbrev pub no_entry : Entry
-no_entry = record { gain = pos 0; doc = 0 }
 
 -- ---- the order of ranks
 

@@ -1,5 +1,5 @@
 -- Rounds that are made one after another.
-use Rattle.std.proofs.Common.{◌≡◌, ℕ, ◌+◌, ◌-◌, ◌<◌, ◌≤◌, List, [], ◌∷◌, ◌++◌, length, get_or, refl, sym, subst, ap, ◌∙◌, inl, inr, arith, append_assoc}
+use Rattle.std.proofs.Common.{◌≡◌, ℕ, ◌+◌, ◌^◌, ◌<◌, ◌≤◌, List, [], ◌∷◌, ◌++◌, length, get_or, refl, sym, subst, ap, ◌∙◌, inl, inr, arith, append_assoc}
 use Rattle.std.specs.Prelude.{slice_get, Some}
 use Rattle.std.proofs.lemmas.Bool.{cases_lt}
 use Rattle.std.proofs.lemmas.List.{length-append, get_or_append_left, get_or-append-add, append-nil}
@@ -10,7 +10,7 @@ use Rattle.exchange.specs.declared.round.Kept.{Kept}
 use Rattle.exchange.specs.declared.round.Round.TheVariants.{Kept as kept, Refused, Still}
 use Rattle.exchange.specs.Pairs.{ArePairs}
 use Rattle.exchange.specs.Round.{IsRefused, IsRound}
-use Rattle.exchange.specs.Halving.{Halves, half_a, half_b, halves_of, Ends, IsHalved, AreMade}
+use Rattle.exchange.specs.Halving.{Halves, half_a, half_b, halves_of, AreKept, Ends, IsHalved, AreMade}
 
 -- ---- a list with one entry more
 
@@ -30,7 +30,7 @@ stays xs x y k read =
     slice_get-get_or (xs ++ x ∷ []) k y (omega (arith, within, length-append xs (x ∷ [])))
     ∙ ap Some (get_or_append_left xs (x ∷ []) y k within ∙ get_or_from_slice_get xs k y y read)
 
-some_same : {X : Type 0} (x y : X) → Some x ≡ Some y → x ≡ y
+pub some_same : {X : Type 0} (x y : X) → Some x ≡ Some y → x ≡ y
 some_same x y same = cc
 
 -- ---- rounds
@@ -49,38 +49,44 @@ none_made forward cell others = record {
   behind = sym (append-nil others);
 }
 
+pub one_kept : (forward : ForwardIndex) (cell : List ℕ) (entries : List Halves) (records : List Kept) (left new : Halves) (record_ : Kept)
+    → AreKept forward cell entries records → slice_get entries (length records) ≡ Some left → IsRound forward left.a left.b (kept record_) new.a new.b
+    → AreKept forward cell (entries ++ new ∷ []) (records ++ record_ ∷ [])
+one_kept forward cell entries records left new record_ are last round = record {
+  opening = stays entries new (halves_of cell) 0 are.opening;
+  len = omega (arith, length-append entries (new ∷ []), length-append records (record_ ∷ []), are.len);
+  each = λ k before after kept_ at_before at_after at_record.
+      elim (cases_lt k (length records)) [
+        | inl early ↦
+            are.each k before after kept_ (front entries new before k (omega (arith, early, are.len)) at_before) (front entries new after (k + 1) (omega (arith, early, are.len)) at_after) (front records record_ kept_ k early at_record)
+        | inr late ↦
+            let within = slice_get_within (records ++ record_ ∷ []) k kept_ at_record in
+            let here : k ≡ length records = omega (arith, late, within, length-append records (record_ ∷ [])) in
+            let is_before : left ≡ before = some_same left before (sym (stays entries new left (length records) last) ∙ ap (slice_get (entries ++ new ∷ [])) (sym here) ∙ at_before) in
+            let is_after : new ≡ after = some_same new after (sym (at_end entries new) ∙ ap (slice_get (entries ++ new ∷ [])) (omega (arith, here, are.len)) ∙ at_after) in
+            let is_record : record_ ≡ kept_ = some_same record_ kept_ (sym (at_end records record_) ∙ ap (slice_get (records ++ record_ ∷ [])) (sym here) ∙ at_record) in
+            subst (λ (h : Halves). IsRound forward h.a h.b (kept kept_) after.a after.b) is_before
+            (subst (λ (h : Halves). IsRound forward left.a left.b (kept kept_) h.a h.b) is_after
+            (subst (λ (r : Kept). IsRound forward left.a left.b (kept r) new.a new.b) is_record round))
+      ];
+}
+
+pub last_kept : (entries : List Halves) (records : List Kept) (new : Halves) (record_ : Kept) → length entries ≡ length records + 1
+    → slice_get (entries ++ new ∷ []) (length (records ++ record_ ∷ [])) ≡ Some new
+last_kept entries records new record_ len =
+    ap (slice_get (entries ++ new ∷ [])) (omega (arith, length-append records (record_ ∷ []), len)) ∙ at_end entries new
+
 pub one_made : (forward : ForwardIndex) (cell : List ℕ) (number : ℕ) (left new : List ℕ) (others all : List Kept) (record_ : Kept)
     → AreMade forward cell number left others all → IsRound forward (halves_of left).a (halves_of left).b (kept record_) (halves_of new).a (halves_of new).b
     → AreMade forward cell (number + 1) new others (all ++ record_ ∷ [])
-one_made forward cell number left new others all record_ made round =
-    let entries = made.entries in
-    let records = made.records in
-    let len = made.are_kept.len in
-    record {
-      entries = entries ++ halves_of new ∷ [];
-      records = records ++ record_ ∷ [];
-      are_kept = record {
-        opening = stays entries (halves_of new) (halves_of cell) 0 made.are_kept.opening;
-        len = omega (arith, length-append entries (halves_of new ∷ []), length-append records (record_ ∷ []), len);
-        each = λ k before after kept_ at_before at_after at_record.
-            elim (cases_lt k (length records)) [
-              | inl early ↦
-                  made.are_kept.each k before after kept_ (front entries (halves_of new) before k (omega (arith, early, len)) at_before) (front entries (halves_of new) after (k + 1) (omega (arith, early, len)) at_after) (front records record_ kept_ k early at_record)
-              | inr late ↦
-                  let within = slice_get_within (records ++ record_ ∷ []) k kept_ at_record in
-                  let here : k ≡ length records = omega (arith, late, within, length-append records (record_ ∷ [])) in
-                  let is_before : halves_of left ≡ before = some_same (halves_of left) before (sym (stays entries (halves_of new) (halves_of left) (length records) made.last) ∙ ap (slice_get (entries ++ halves_of new ∷ [])) (sym here) ∙ at_before) in
-                  let is_after : halves_of new ≡ after = some_same (halves_of new) after (sym (at_end entries (halves_of new)) ∙ ap (slice_get (entries ++ halves_of new ∷ [])) (omega (arith, here, len)) ∙ at_after) in
-                  let is_record : record_ ≡ kept_ = some_same record_ kept_ (sym (at_end records record_) ∙ ap (slice_get (records ++ record_ ∷ [])) (sym here) ∙ at_record) in
-                  subst (λ (h : Halves). IsRound forward h.a h.b (kept kept_) after.a after.b) is_before
-                  (subst (λ (h : Halves). IsRound forward (halves_of left).a (halves_of left).b (kept kept_) h.a h.b) is_after
-                  (subst (λ (r : Kept). IsRound forward (halves_of left).a (halves_of left).b (kept r) (halves_of new).a (halves_of new).b) is_record round))
-            ];
-      };
-      len = omega (arith, length-append records (record_ ∷ []), made.len);
-      last = ap (slice_get (entries ++ halves_of new ∷ [])) (omega (arith, length-append records (record_ ∷ []), len)) ∙ at_end entries (halves_of new);
-      behind = ap (λ (xs : List Kept). xs ++ record_ ∷ []) made.behind ∙ append_assoc others records (record_ ∷ []);
-    }
+one_made forward cell number left new others all record_ made round = record {
+  entries = made.entries ++ halves_of new ∷ [];
+  records = made.records ++ record_ ∷ [];
+  are_kept = one_kept forward cell made.entries made.records (halves_of left) (halves_of new) record_ made.are_kept made.last round;
+  len = omega (arith, length-append made.records (record_ ∷ []), made.len);
+  last = last_kept made.entries made.records (halves_of new) record_ made.are_kept.len;
+  behind = ap (λ (xs : List Kept). xs ++ record_ ∷ []) made.behind ∙ append_assoc others made.records (record_ ∷ []);
+}
 
 pub all_made : (forward : ForwardIndex) (cell : List ℕ) (rounds : ℕ) (left : List ℕ) (others all : List Kept) → AreMade forward cell rounds left others all → IsHalved forward cell rounds left others all
 all_made forward cell rounds left others all made = record {
@@ -149,3 +155,7 @@ cleared_after terms table new len is = is ∙ ap (λ (n : ℕ). cleared n table.
 pub loads_small : (loads : ℕ) → one_load_more loads ≤ loads + 1
 unfolding one_load_more
 loads_small loads = omega arith
+
+pub loads_grow : (loads : ℕ) → loads < 2 ^ 64 → loads ≤ one_load_more loads
+unfolding one_load_more
+loads_grow loads within = omega (arith, within)

@@ -30,7 +30,8 @@ term_gain_of B table term =
 abbrev pub gain_of : Side → Counted → List ℕ → ℤ
 gain_of side table row = total_by (term_gain_of side table) row
 
--- sizes and counts have logarithms below the number, with one more for the term that moves
+-- Neither half is empty, and the number is more than both sizes, and than both counts of each term
+-- together.
 pub record IsReady (top : ℕ) (table : Counted) : Type 0 where
   pub some_a : 0 < table.len_a
   pub some_b : 0 < table.len_b

@@ -3,3 +3,4 @@ pub mod Pairs
 pub mod Round
 pub mod Halving
 pub mod Tries
+pub mod Laws

@@ -1,12 +1,12 @@
 -- What functions of this crate hand to one another: tables in which many documents were moved, and
 -- halves of which a front of pairs changed places.
-use Rattle.std.specs.Prelude.{◌≡◌, ◌⊎◌, ℕ, ◌+◌, ◌-◌, ◌/◌, ◌<◌, ◌≤◌, ℤ, pos, neg_ℤ, ◌^◌, ◌+ℤ◌, ◌<ℤ◌, ◌≤ℤ◌, int_lt, List, ◌++◌, length, map, take, drop, slice_index, zip}
+use Rattle.std.specs.Prelude.{◌≡◌, ◌⊎◌, ℕ, ◌+◌, ◌-◌, ◌/◌, ◌<◌, ◌≤◌, ℤ, pos, neg_ℤ, ◌^◌, ◌+ℤ◌, ◌<ℤ◌, ◌≤ℤ◌, ◌*◌, int_lt, List, ◌++◌, length, map, take, drop, slice_index, slice_index_or, zip, All, AllPairs, IsPermutation}
 use Rattle.std.specs.List.{range_with_len, prefix_len}
 use Rattle.rgb_base.specs.declared.parts.Side.{Side}
 use Rattle.rgb_base.specs.declared.parts.Side.TheVariants.{A, B}
 use Rattle.forward_index.specs.Forward.{ForwardIndex, row_at}
 use Rattle.degrees.specs.Counts.{Counted, counts_in, cost_of, degrees_of}
-use Rattle.exchange.specs.Gain.{gain_of}
+use Rattle.exchange.specs.Gain.{gain_of, term_gain_of}
 use Rattle.exchange.specs.declared.entry.Entry.{Entry}
 use Rattle.exchange.specs.declared.tries.Tried.{Tried}
 
@@ -30,6 +30,16 @@ size_beside B table = table.len_a
 pub record IsWithin (m : ℕ) (z : ℤ) : Type 0 where
   pub low : neg_ℤ (pos m) ≤ℤ z
   pub high : z ≤ℤ pos m
+
+-- the step of a term adds to the gain of a document of the half what the term does
+pub record IsStep (side : Side) (table : Counted) (term : ℕ) (step : ℤ) : Type 0 where
+  pub same : 0 < slice_index (counts_in side table) term → step ≡ term_gain_of side table term
+  pub small : IsWithin ((slice_index table.a term + slice_index table.b term) * 2 ^ 23) step
+
+-- so for each step that is there
+abbrev pub AreSteps : Side → Counted → List ℤ → Type 0
+AreSteps side table steps =
+    (term : ℕ) → term < length steps → IsStep side table term (slice_index_or steps term (pos 0))
 
 -- ---- tables in which many documents were moved
 
@@ -103,9 +113,49 @@ HasGain side table rows entry = entry.gain ≡ gain_of side table (row_at rows e
 abbrev pub IsLow : Entry → Type 0
 IsLow entry = IsWithin (2 ^ 56) entry.gain
 
+-- what stands for an entry behind the last one
+abbrev pub no_entry : Entry
+no_entry = record { gain = pos 0; doc = 0 }
+
 -- how many pairs in front gain something
 abbrev pub gaining : List Entry → List Entry → ℕ
 gaining a b = prefix_len (λ pair. int_lt (pos 0) (pair.0.gain +ℤ pair.1.gain)) (zip a b)
+
+-- ---- halves of which only a front is ranked
+
+-- the entries in front have a positive sum with the other gain, and no other entry has
+pub record IsParted (front : ℕ) (other : ℤ) (entries : List Entry) : Type 0 where
+  pub within : front ≤ length entries
+  pub above : All (λ entry. pos 0 <ℤ (entry.gain +ℤ other)) (take front entries)
+  pub rest : All (λ entry. (entry.gain +ℤ other) ≤ℤ pos 0) (drop front entries)
+
+-- the sum of the gains at a rank
+abbrev pub sum_at : List Entry → List Entry → ℕ → ℤ
+sum_at a b k = (slice_index_or a k no_entry).gain +ℤ (slice_index_or b k no_entry).gain
+
+-- each pair of so many in front gains something, and the next one nothing
+pub record ArePassed (pairs : ℕ) (a b : List Entry) : Type 0 where
+  pub within_a : pairs ≤ length a
+  pub within_b : pairs ≤ length b
+  pub passed : (k : ℕ) → k < pairs → pos 0 <ℤ sum_at a b k
+  pub next : pairs < length a → pairs < length b → sum_at a b pairs ≤ℤ pos 0
+
+-- The ranked list of all entries: as far as the pairs go it differs from the entries behind a front
+-- alone.
+pub record IsRankedTo (pairs : ℕ) (entries ranked : List Entry) : Type 0 where
+  pub order : AllPairs StandsBefore ranked
+  pub front : (m : ℕ) → m ≤ pairs → take m entries ≡ take m ranked
+  pub rest : (m : ℕ) → m ≤ pairs → IsPermutation (drop m entries) (drop m ranked)
+
+-- so many pairs of two halves gain something
+pub record HavePairs (pairs : ℕ) (a b : List Entry) : Type 0 where
+  pub within_a : pairs ≤ length a
+  pub within_b : pairs ≤ length b
+  pub ranked_a : List Entry
+  pub ranked_b : List Entry
+  pub is_a : IsRankedTo pairs a ranked_a
+  pub is_b : IsRankedTo pairs b ranked_b
+  pub gaining : pairs ≡ gaining ranked_a ranked_b
 
 -- ---- how the tries of a round end
 

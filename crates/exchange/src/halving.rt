@@ -68,11 +68,13 @@ pub fn halve<R: Threads + Sync>(
         ground.now.forward.now docs.old rounds docs.new kept.old kept.new) }
     ensures clear { degrees.new
         ≡ cleared ground.now.forward.now.terms degrees.new.loads }
-    ensures loads { degrees.new.loads ≤ degrees.old.loads + 1 }
+    ensures loads { (degrees.old.loads ≤ degrees.new.loads)
+        × (degrees.new.loads ≤ degrees.old.loads + 1) }
     ensures memory { OnErr result
         ((docs.new ≡ docs.old) × (kept.new ≡ kept.old) × (degrees.new ≡ degrees.old)) }
     ensures scratch { scratch.new ≡ scratch.old }
 {
+    degrees.is_sound();
     kept.value.reserve(rounds as usize)?;
     let (a, b) = docs.split_at(docs.len() - docs.len() / 2);
     degrees.load(ground.forward, a, b);

@@ -4,6 +4,7 @@
 mod entry;
 mod ground;
 mod halving;
+pub mod laws;
 mod moves;
 mod round;
 mod scratch;

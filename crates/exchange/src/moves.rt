@@ -1,11 +1,11 @@
 //! What the moves of documents gain.
-ghost use Rattle.std.specs.Prelude.{◌≡◌, ◌+◌, ◌*◌, ◌<◌, ◌^◌, ℕ, pos, ◌-ℤ◌, ◌*ℤ◌, length, map, slice_index, All};
+ghost use Rattle.std.specs.Prelude.{◌≡◌, ◌+◌, ◌*◌, ◌<◌, ◌≤◌, ◌^◌, ℕ, pos, ◌-ℤ◌, ◌*ℤ◌, length, map, slice_index, All};
 ghost use Rattle.std.specs.Thread.{IsSync};
 ghost use Rattle.fixed_log.specs.Log.{lg};
 ghost use Rattle.forward_index.specs.Forward.{row_at};
 ghost use Rattle.degrees.specs.Counts.{counts_in, IsCountedIn};
 ghost use Rattle.exchange.specs.Gain.{term_gain, gain_of, IsReady};
-ghost use Rattle.exchange.specs.Tries.{counts_beside, size_in, size_beside, entry_of, IsWithin, IsLow};
+ghost use Rattle.exchange.specs.Tries.{counts_beside, size_in, size_beside, entry_of, IsWithin, IsLow, AreSteps};
 
 use crate::entry::Entry;
 use crate::ground::Ground;
@@ -153,6 +153,7 @@ pub(crate) fn fill_shared<R: Threads + Sync>(
     degrees: &Degrees,
     docs: &[u32],
     from: Side,
+    steps: &[i64],
     entries: &mut [Entry],
     workers: u32,
 )
@@ -162,12 +163,13 @@ pub(crate) fn fill_shared<R: Threads + Sync>(
     requires counted { All (λ doc. IsCountedIn from
         (row_at ground.now.forward.now.rows doc) degrees.now) docs.now }
     requires ready { IsReady ground.now.logs.now degrees.now }
+    requires steps { AreSteps from degrees.now steps.now }
     ensures same { entries.new
         ≡ map (entry_of from degrees.now ground.now.forward.now.rows) docs.now }
     ensures low { All IsLow entries.new }
 {
     if workers < 2 || docs.len() < FEW {
-        fill(ground, degrees, docs, from, entries);
+        fill(ground, degrees, docs, from, steps, entries);
         return;
     }
     let helpers = workers / 2;
@@ -183,33 +185,43 @@ pub(crate) fn fill_shared<R: Threads + Sync>(
                 × All (λ doc. doc < length ground.now.forward.now.rows) docs_front.now
                 × All (λ doc. IsCountedIn from
                 (row_at ground.now.forward.now.rows doc) degrees.now) docs_front.now
-                × IsReady ground.now.logs.now degrees.now }
+                × IsReady ground.now.logs.now degrees.now
+                × AreSteps from degrees.now steps.now }
             ensures { (front.exit.now ≡ map (entry_of from degrees.entry.now
                 ground.entry.now.forward.now.rows) docs_front.entry.now)
                 × All IsLow front.exit.now }
-        { fill_shared(rt, ground, degrees, docs_front, from, front, helpers) },
+        { fill_shared(rt, ground, degrees, docs_front, from, steps, front, helpers) },
         &mut ||
             requires { IsSync R.row × (length back.now ≡ length docs_back.now)
                 × (length degrees.now.a ≡ ground.now.forward.now.terms)
                 × All (λ doc. doc < length ground.now.forward.now.rows) docs_back.now
                 × All (λ doc. IsCountedIn from
                 (row_at ground.now.forward.now.rows doc) degrees.now) docs_back.now
-                × IsReady ground.now.logs.now degrees.now }
+                × IsReady ground.now.logs.now degrees.now
+                × AreSteps from degrees.now steps.now }
             ensures { (back.exit.now ≡ map (entry_of from degrees.entry.now
                 ground.entry.now.forward.now.rows) docs_back.entry.now)
                 × All IsLow back.exit.now }
-        { fill_shared(rt, ground, degrees, docs_back, from, back, others) },
+        { fill_shared(rt, ground, degrees, docs_back, from, steps, back, others) },
     );
 }
 
 /// The same by this thread alone.
-fn fill(ground: &Ground<'_>, degrees: &Degrees, docs: &[u32], from: Side, entries: &mut [Entry])
+fn fill(
+    ground: &Ground<'_>,
+    degrees: &Degrees,
+    docs: &[u32],
+    from: Side,
+    steps: &[i64],
+    entries: &mut [Entry],
+)
     requires len { length entries.old ≡ length docs.now }
     requires terms { length degrees.now.a ≡ ground.now.forward.now.terms }
     requires below { All (λ doc. doc < length ground.now.forward.now.rows) docs.now }
     requires counted { All (λ doc. IsCountedIn from
         (row_at ground.now.forward.now.rows doc) degrees.now) docs.now }
     requires ready { IsReady ground.now.logs.now degrees.now }
+    requires steps { AreSteps from degrees.now steps.now }
     ensures same { entries.new
         ≡ map (entry_of from degrees.now ground.now.forward.now.rows) docs.now }
     ensures low { All IsLow entries.new }
@@ -217,10 +229,79 @@ fn fill(ground: &Ground<'_>, degrees: &Degrees, docs: &[u32], from: Side, entrie
     for place in 0..docs.len() {
         let doc = docs[place];
         entries[place] = Entry {
-            gain: narrow_gain(ground, degrees, doc, from),
+            gain: entry_gain(ground, degrees, doc, from, steps),
             doc,
         };
     }
+}
+
+/// What the move of a document gains, by the steps where there are those of all terms.
+fn entry_gain(ground: &Ground<'_>, degrees: &Degrees, doc: u32, from: Side, steps: &[i64]) -> i64
+    requires terms { length degrees.now.a ≡ ground.now.forward.now.terms }
+    requires below { doc < length ground.now.forward.now.rows }
+    requires counted { IsCountedIn from (row_at ground.now.forward.now.rows doc) degrees.now }
+    requires ready { IsReady ground.now.logs.now degrees.now }
+    requires steps { AreSteps from degrees.now steps.now }
+    ensures same { result ≡ gain_of from degrees.now (row_at ground.now.forward.now.rows doc) }
+    ensures small { IsWithin (2 ^ 56) result }
+{
+    if steps.len() < degrees.terms() as usize {
+        narrow_gain(ground, degrees, doc, from)
+    } else {
+        gain_by_steps(ground, degrees, doc, from, steps)
+    }
+}
+
+/// What the move of a document gains, as the sum of its terms' steps.
+fn gain_by_steps(ground: &Ground<'_>, degrees: &Degrees, doc: u32, from: Side, steps: &[i64]) -> i64
+    requires terms { length degrees.now.a ≡ ground.now.forward.now.terms }
+    requires below { doc < length ground.now.forward.now.rows }
+    requires counted { IsCountedIn from (row_at ground.now.forward.now.rows doc) degrees.now }
+    requires len { length degrees.now.a ≤ length steps.now }
+    requires steps { AreSteps from degrees.now steps.now }
+    ensures same { result ≡ gain_of from degrees.now (row_at ground.now.forward.now.rows doc) }
+    ensures small { IsWithin (2 ^ 56) result }
+{
+    let _ = from;
+    degrees.is_sound();
+    ground.forward.is_sound();
+    let mut sum = 0;
+    for term in ground.forward.terms_of(doc) {
+        sum += steps[*term as usize];
+    }
+    sum
+}
+
+/// Fills the steps of terms: what each of them adds to the gains of a half's documents.
+pub(crate) fn fill_steps(ground: &Ground<'_>, degrees: &Degrees, from: Side, steps: &mut [i64])
+    requires len { length steps.old ≤ length degrees.now.a }
+    requires ready { IsReady ground.now.logs.now degrees.now }
+    ensures steps { AreSteps from degrees.now steps.new }
+    ensures len { length steps.new ≡ length steps.old }
+{
+    degrees.is_sound();
+    log_is_small();
+    let (own_log, other_log) = size_logs(ground.logs, degrees, from);
+    for term in 0..steps.len() {
+        let (own, other) = counts(degrees, term as u32, from);
+        steps[term] = step(ground.logs, own, other, own_log, other_log);
+    }
+}
+
+/// What a term adds to the gain of a document that has it, and 0 where the half has no such one.
+fn step(logs: &LogTable, own: u32, other: u32, own_log: u32, other_log: u32) -> i64
+    requires low { own + other < logs.now }
+    requires few { own + other < 2 ^ 31 }
+    requires small { own_log < 2 ^ 22 }
+    requires other_small { other_log < 2 ^ 22 }
+    ensures same { (m n : ℕ) → 0 < own → own_log ≡ lg m → other_log ≡ lg n
+        → result ≡ term_gain m n own other }
+    ensures within { IsWithin ((own + other) * 2 ^ 23) result }
+{
+    if own == 0 {
+        return 0;
+    }
+    narrow_term_gain(logs, own, other, own_log, other_log)
 }
 
 /// The logarithms of the sizes of a half and of the other.

@@ -6,11 +6,11 @@ ghost use Rattle.degrees.specs.Counts.{IsCountedIn, loaded, cost_of};
 ghost use Rattle.exchange.specs.Gain.{IsReady};
 ghost use Rattle.exchange.specs.Round.{IsRound};
 ghost use Rattle.exchange.specs.Halving.{half_a, half_b};
-ghost use Rattle.exchange.specs.Tries.{docs_of, HasGain, StandsBefore, IsLow};
+ghost use Rattle.exchange.specs.Tries.{docs_of, HasGain, IsLow};
 
-use crate::entry::{Entry, gaining_pairs, put_half, rank};
+use crate::entry::{Entry, put_half, rank_pairs};
 use crate::ground::Ground;
-use crate::moves::fill_shared;
+use crate::moves::{fill_shared, fill_steps};
 use crate::scratch::Scratch;
 use crate::tries::first_less;
 use degrees::Degrees;
@@ -97,36 +97,89 @@ pub(crate) fn round_from<R: Threads + Sync>(
     ensures same { IsPermutation docs.old docs.new }
     ensures room { scratch.new ≡ scratch.old }
 {
-    let middle = docs.len() - docs.len() / 2;
-    let (a, b) = docs.split_at_mut(middle);
-    let (entries_a, rest) = scratch.entries.split_at_mut(middle);
-    let entries_b = &mut rest[..b.len()];
-    round_of_halves(rt, ground, degrees, a, b, entries_a, entries_b, before)
+    let Scratch { entries, steps } = scratch;
+    round_in(rt, ground, degrees, docs, entries, steps, before)
 }
 
-/// Ranks the documents of a half by their gains.
-fn rank_half<R: Threads + Sync>(
+/// The same with room for an entry a document, and maybe for a step a term.
+fn round_in<R: Threads + Sync>(
+    rt: &R,
+    ground: &Ground<'_>,
+    degrees: &mut Degrees,
+    docs: &mut [u32],
+    entries: &mut [Entry],
+    steps: &mut [i64],
+    before: i128,
+) -> Round
+    requires top { length ground.now.forward.now.rows < ground.now.logs.now }
+    requires some { 2 ≤ length docs.old }
+    requires places { AreNumbers (length ground.now.forward.now.rows) docs.old }
+    requires table { degrees.old ≡ loaded
+        ground.now.forward.now (half_a docs.old) (half_b docs.old) degrees.old.loads }
+    requires room { length docs.old ≤ length entries.old }
+    requires before { before ≡ cost_of degrees.old }
+    ensures round { IsRound ground.now.forward.now
+        (half_a docs.old) (half_b docs.old) result (half_a docs.new) (half_b docs.new) }
+    ensures loaded { degrees.new ≡ loaded
+        ground.now.forward.now (half_a docs.new) (half_b docs.new) degrees.old.loads }
+    ensures same { IsPermutation docs.old docs.new }
+{
+    let middle = docs.len() - docs.len() / 2;
+    let (a, b) = docs.split_at_mut(middle);
+    let (entries_a, rest) = entries.split_at_mut(middle);
+    let entries_b = &mut rest[..b.len()];
+    let steps = steps_for(degrees, a.len(), steps);
+    round_of_halves(
+        rt, ground, degrees, a, b, entries_a, entries_b, steps, before,
+    )
+}
+
+/// The room for the steps of all terms, or none where there is less, or where the documents of a
+/// half are so few that their gains are sooner worked out from the counts.
+fn steps_for<'a>(degrees: &Degrees, docs: usize, room: &'a mut [i64]) -> &'a mut [i64]
+    ensures room { length result.now ≤ length degrees.now.a }
+{
+    let terms = degrees.terms() as usize;
+    if terms <= room.len() && terms / 16 <= docs {
+        &mut room[..terms]
+    } else {
+        &mut []
+    }
+}
+
+/// Fills the entries with the documents of a half and their gains.
+fn fill_half<R: Threads + Sync>(
     rt: &R,
     ground: &Ground<'_>,
     degrees: &Degrees,
     docs: &[u32],
     from: Side,
+    steps: &mut [i64],
     entries: &mut [Entry],
 )
     requires len { length entries.old ≡ length docs.now }
     requires terms { length degrees.now.a ≡ ground.now.forward.now.terms }
     requires below { All (λ doc. doc < length ground.now.forward.now.rows) docs.now }
-    requires differ { AllPairs (λ a b. a ≢ b) docs.now }
     requires counted { All (λ doc. IsCountedIn from
         (row_at ground.now.forward.now.rows doc) degrees.now) docs.now }
     requires ready { IsReady ground.now.logs.now degrees.now }
-    ensures same { IsPermutation docs.now (docs_of entries.new) }
+    requires steps { length steps.old ≤ length degrees.now.a }
+    ensures steps { length steps.new ≡ length steps.old }
+    ensures same { docs_of entries.new ≡ docs.now }
     ensures gains { All (HasGain from degrees.now ground.now.forward.now.rows) entries.new }
     ensures low { All IsLow entries.new }
-    ensures ranked { AllPairs StandsBefore entries.new }
 {
-    fill_shared(rt, ground, degrees, docs, from, entries, ground.workers);
-    rank(entries);
+    fill_steps(ground, degrees, from, steps);
+    fill_shared(
+        rt,
+        ground,
+        degrees,
+        docs,
+        from,
+        steps,
+        entries,
+        ground.workers,
+    );
 }
 
 /// One round of two halves of which the table has the degrees, with their cost and room for an
@@ -139,6 +192,7 @@ fn round_of_halves<R: Threads + Sync>(
     b: &mut [u32],
     entries_a: &mut [Entry],
     entries_b: &mut [Entry],
+    steps: &mut [i64],
     before: i128,
 ) -> Round
     requires top { length ground.now.forward.now.rows < ground.now.logs.now }
@@ -147,6 +201,7 @@ fn round_of_halves<R: Threads + Sync>(
     requires places { AreNumbers (length ground.now.forward.now.rows) (a.old ++ b.old) }
     requires room { length entries_a.old ≡ length a.old }
     requires room_b { length entries_b.old ≡ length b.old }
+    requires steps { length steps.old ≤ length degrees.old.a }
     requires table { degrees.old
         ≡ loaded ground.now.forward.now a.old b.old degrees.old.loads }
     requires before { before ≡ cost_of degrees.old }
@@ -156,9 +211,9 @@ fn round_of_halves<R: Threads + Sync>(
     ensures same { IsPermutation (a.old ++ b.old) (a.new ++ b.new) }
 {
     ground.forward.is_sound();
-    rank_half(rt, ground, degrees, a, Side::A, entries_a);
-    rank_half(rt, ground, degrees, b, Side::B, entries_b);
-    let pairs = gaining_pairs(entries_a, entries_b);
+    fill_half(rt, ground, degrees, a, Side::A, steps, entries_a);
+    fill_half(rt, ground, degrees, b, Side::B, steps, entries_b);
+    let pairs = rank_pairs(entries_a, entries_b);
     if pairs == 0 {
         return Round::Still;
     }

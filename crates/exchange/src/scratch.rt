@@ -7,9 +7,11 @@ use std::alloc::Global;
 use std::marker::Model;
 
 /// Room for cells of at most so many documents, at 16 bytes a document. Contracts see that number.
+/// With room for all terms, at 8 bytes a term, rounds are faster.
 #[derive(Drop)]
 pub struct Scratch {
     pub(crate) entries: Vec<Entry>,
+    pub(crate) steps: Vec<i64>,
 }
 
 impl Model for Scratch {
@@ -25,9 +27,16 @@ impl Scratch {
     pub fn new(alloc: Global, most: u32) -> Result<Scratch, OutOfMemory>
         ensures { IfOk result (λ scratch. scratch ≡ most) }
     {
+        Scratch::with_terms(alloc, most, 0)
+    }
+
+    /// The same with room for the work on so many terms.
+    pub fn with_terms(alloc: Global, most: u32, terms: u32) -> Result<Scratch, OutOfMemory>
+        ensures { IfOk result (λ scratch. scratch ≡ most) }
+    {
         let none = Entry { gain: 0, doc: 0 };
-        Ok(Scratch {
-            entries: vec![in alloc; none; most as usize]?,
-        })
+        let entries = vec![in alloc; none; most as usize]?;
+        let steps = vec![in alloc; 0; terms as usize]?;
+        Ok(Scratch { entries, steps })
     }
 }

@@ -1,6 +1,6 @@
 -- Each pair passed gains something.
 use Rattle.std.proofs.Common.{ℕ, ◌<◌, pos, ◌+ℤ◌, ◌<ℤ◌, get_or}
-use Rattle.exchange.proofs.Ranked.{no_entry}
+use Rattle.exchange.specs.Tries.{no_entry}
 use Rattle.exchange.proofs.entry.gaining_pairs.Given as goal
 
 abbrev pub invariant-loop-rank : goal.invariant-loop-rank

@@ -3,7 +3,8 @@ use Rattle.std.proofs.lemmas.List.{length-set, length-map}
 use Rattle.exchange.specs.declared.entry.Entry.{Entry}
 use Rattle.exchange.specs.Tries.{docs_of, half_after}
 use Rattle.exchange.proofs.Exchanged.{after_front, after_back, fill_step, length_after}
-use Rattle.exchange.proofs.Ranked.{no_entry, doc_at}
+use Rattle.exchange.specs.Tries.{no_entry}
+use Rattle.exchange.proofs.Ranked.{doc_at}
 use Rattle.exchange.proofs.entry.put_documents.Goals as goal
 use Rattle.exchange.proofs.entry.put_documents.Goals.{then-rank-pairs, else-rank-pairs}
 

@@ -4,7 +4,7 @@ use Rattle.degrees.specs.Counts.{Counted}
 use Rattle.exchange.specs.Halving.{half_a, half_b}
 use Rattle.exchange.proofs.Cells.{AreNumbers-from_rising, joined}
 use Rattle.exchange.proofs.Outcome.{loaded_terms}
-use Rattle.exchange.proofs.Rounds.{cleared_after, loads_small}
+use Rattle.exchange.proofs.Rounds.{cleared_after, loads_small, loads_grow}
 use Rattle.exchange.proofs.halving.halve.Goals as goal
 
 pub load-requires-clause-places : goal.load-requires-clause-places
@@ -31,4 +31,7 @@ returns-clause-loads g c =
     let last = ap (λ (t : Counted). t.loads) c.clear.ensures.clear in
     let made = ap (λ (t : Counted). t.loads) c.make_rounds.ensures.loaded in
     let first = ap (λ (t : Counted). t.loads) c.load.ensures.loaded in
-    omega (arith, last, made, first, loads_small c.args.degrees.now.loads)
+    let before = c.args.degrees.now.loads in (
+      omega (arith, last, made, first, loads_grow before c.is_sound.ensures.sound.loads),
+      omega (arith, last, made, first, loads_small before),
+    )

@@ -1,7 +1,7 @@
 -- The first places are filled.
 use Rattle.std.proofs.Common.{◌≡◌, ℕ, ◌<◌, length, take, map, get_or}
 use Rattle.exchange.specs.Tries.{entry_of, IsLow}
-use Rattle.exchange.proofs.Ranked.{no_entry}
+use Rattle.exchange.specs.Tries.{no_entry}
 use Rattle.exchange.proofs.moves.fill.Given as goal
 
 abbrev pub invariant-loop-place : goal.invariant-loop-place

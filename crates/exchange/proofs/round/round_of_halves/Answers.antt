@@ -8,12 +8,14 @@ use Rattle.forward_index.specs.Forward.{row_at}
 use Rattle.rgb_base.specs.declared.parts.Side.TheVariants.{A, B}
 use Rattle.exchange.specs.Gain.{IsReady}
 use Rattle.exchange.specs.Tries.{docs_of, gaining, tried, IsFirstLess}
-use Rattle.exchange.proofs.Exchanged.{Differ-left, Differ-right, both_differ}
-use Rattle.exchange.proofs.Outcome.{AreRanked-from, below_left, below_right, loaded_terms, loaded_counted_A, loaded_counted_B, loaded_ready, loaded_cost, loaded_tried, loaded_after, docs_below, few_numbers, no_pairs, all_differ, all_differ_back, kept, refused, both_permuted}
+use Rattle.std.proofs.lemmas.List.Sorted.{IsPermutation-append, IsPermutation-append_comm}
+use Rattle.exchange.proofs.Exchanged.{Differ, Differ-left, Differ-right, Differ-permutation, both_differ}
+use Rattle.exchange.proofs.Fronts.{docs_from, ranked_by, put_same, tried_same, first_same}
+use Rattle.exchange.proofs.Outcome.{below_left, below_right, loaded_terms, loaded_counted_A, loaded_counted_B, loaded_ready, loaded_cost, loaded_tried, loaded_after, docs_below, few_numbers, no_pairs, kept, refused, both_permuted}
 use Rattle.exchange.proofs.round.round_of_halves.Goals as goal
 
-pub rank_half-requires-clause-terms : goal.rank_half-requires-clause-terms
-rank_half-requires-clause-terms g c κs within =
+pub fill_half-requires-clause-terms : goal.fill_half-requires-clause-terms
+fill_half-requires-clause-terms g c κs within =
     let forward = c.args.ground.now.forward.now in
     let a = c.args.a.now in
     let b = c.args.b.now in
@@ -21,8 +23,8 @@ rank_half-requires-clause-terms g c κs within =
     let loads = c.args.degrees.now.loads in
     ap (λ (t : Counted). length t.a) c.requires.table ∙ loaded_terms forward a b loads
 
-pub rank_half-requires-clause-below : goal.rank_half-requires-clause-below
-rank_half-requires-clause-below g c κs within =
+pub fill_half-requires-clause-below : goal.fill_half-requires-clause-below
+fill_half-requires-clause-below g c κs within =
     let forward = c.args.ground.now.forward.now in
     let a = c.args.a.now in
     let b = c.args.b.now in
@@ -30,17 +32,8 @@ rank_half-requires-clause-below g c κs within =
     let loads = c.args.degrees.now.loads in
     below_left (length forward.rows) a b c.requires.places.below
 
-pub rank_half-requires-clause-differ : goal.rank_half-requires-clause-differ
-rank_half-requires-clause-differ g c κs within =
-    let forward = c.args.ground.now.forward.now in
-    let a = c.args.a.now in
-    let b = c.args.b.now in
-    let table = c.args.degrees.now in
-    let loads = c.args.degrees.now.loads in
-    Differ-left a b c.requires.places.different
-
-pub rank_half-requires-clause-counted : goal.rank_half-requires-clause-counted
-rank_half-requires-clause-counted g c κs within =
+pub fill_half-requires-clause-counted : goal.fill_half-requires-clause-counted
+fill_half-requires-clause-counted g c κs within =
     let forward = c.args.ground.now.forward.now in
     let a = c.args.a.now in
     let b = c.args.b.now in
@@ -48,8 +41,8 @@ rank_half-requires-clause-counted g c κs within =
     let loads = c.args.degrees.now.loads in
     subst (λ (t : Counted). All (λ doc. IsCountedIn A (row_at forward.rows doc) t) a) (sym c.requires.table) (loaded_counted_A forward a b loads c.is_sound.ensures.sound (below_left (length forward.rows) a b c.requires.places.below))
 
-pub rank_half-requires-clause-ready : goal.rank_half-requires-clause-ready
-rank_half-requires-clause-ready g c κs within =
+pub fill_half-requires-clause-ready : goal.fill_half-requires-clause-ready
+fill_half-requires-clause-ready g c κs within =
     let forward = c.args.ground.now.forward.now in
     let a = c.args.a.now in
     let b = c.args.b.now in
@@ -57,8 +50,8 @@ rank_half-requires-clause-ready g c κs within =
     let loads = c.args.degrees.now.loads in
     subst (IsReady c.args.ground.now.logs.now) (sym c.requires.table) (loaded_ready c.args.ground.now.logs.now forward a b loads c.requires.places c.requires.top c.requires.some c.requires.some_b)
 
-pub rank_half-requires-2-clause-terms : goal.rank_half-requires-2-clause-terms
-rank_half-requires-2-clause-terms g c κs within =
+pub fill_half-requires-2-clause-terms : goal.fill_half-requires-2-clause-terms
+fill_half-requires-2-clause-terms g c κs within =
     let forward = c.args.ground.now.forward.now in
     let a = c.args.a.now in
     let b = c.args.b.now in
@@ -66,8 +59,8 @@ rank_half-requires-2-clause-terms g c κs within =
     let loads = c.args.degrees.now.loads in
     ap (λ (t : Counted). length t.a) c.requires.table ∙ loaded_terms forward a b loads
 
-pub rank_half-requires-2-clause-below : goal.rank_half-requires-2-clause-below
-rank_half-requires-2-clause-below g c κs within =
+pub fill_half-requires-2-clause-below : goal.fill_half-requires-2-clause-below
+fill_half-requires-2-clause-below g c κs within =
     let forward = c.args.ground.now.forward.now in
     let a = c.args.a.now in
     let b = c.args.b.now in
@@ -75,17 +68,8 @@ rank_half-requires-2-clause-below g c κs within =
     let loads = c.args.degrees.now.loads in
     below_right (length forward.rows) a b c.requires.places.below
 
-pub rank_half-requires-2-clause-differ : goal.rank_half-requires-2-clause-differ
-rank_half-requires-2-clause-differ g c κs within =
-    let forward = c.args.ground.now.forward.now in
-    let a = c.args.a.now in
-    let b = c.args.b.now in
-    let table = c.args.degrees.now in
-    let loads = c.args.degrees.now.loads in
-    Differ-right a b c.requires.places.different
-
-pub rank_half-requires-2-clause-counted : goal.rank_half-requires-2-clause-counted
-rank_half-requires-2-clause-counted g c κs within =
+pub fill_half-requires-2-clause-counted : goal.fill_half-requires-2-clause-counted
+fill_half-requires-2-clause-counted g c κs within =
     let forward = c.args.ground.now.forward.now in
     let a = c.args.a.now in
     let b = c.args.b.now in
@@ -93,8 +77,8 @@ rank_half-requires-2-clause-counted g c κs within =
     let loads = c.args.degrees.now.loads in
     subst (λ (t : Counted). All (λ doc. IsCountedIn B (row_at forward.rows doc) t) b) (sym c.requires.table) (loaded_counted_B forward a b loads c.is_sound.ensures.sound (below_right (length forward.rows) a b c.requires.places.below))
 
-pub rank_half-requires-2-clause-ready : goal.rank_half-requires-2-clause-ready
-rank_half-requires-2-clause-ready g c κs within =
+pub fill_half-requires-2-clause-ready : goal.fill_half-requires-2-clause-ready
+fill_half-requires-2-clause-ready g c κs within =
     let forward = c.args.ground.now.forward.now in
     let a = c.args.a.now in
     let b = c.args.b.now in
@@ -109,10 +93,13 @@ returns-then-pairs-eq0-clause-round g c =
     let b = c.args.b.now in
     let table = c.args.degrees.now in
     let loads = c.args.degrees.now.loads in
-    let xs = c.rank_half.new.entries in
-    let ys = c.rank_half-2.new.entries in
-    let are = AreRanked-from forward a b loads table xs ys c.is_sound.ensures.sound c.requires.places c.requires.table c.rank_half.ensures.same c.rank_half-2.ensures.same c.rank_half.ensures.gains c.rank_half-2.ensures.gains c.rank_half.ensures.ranked c.rank_half-2.ensures.ranked in
-    (no_pairs forward a b loads xs ys are (sym c.gaining_pairs-pairs.ensures.same ∙ c.if-pairs-eq0.true), refl, refl)
+    let old_x = c.fill_half.new.entries in
+    let old_y = c.fill_half-2.new.entries in
+    let xs = c.rank_pairs-pairs.new.a in
+    let ys = c.rank_pairs-pairs.new.b in
+    let have = c.rank_pairs-pairs.ensures.pairs in
+    let are = ranked_by forward a b loads table c.rank_pairs-pairs.result old_x old_y xs ys c.is_sound.ensures.sound c.requires.places c.requires.table c.fill_half.ensures.same c.fill_half-2.ensures.same c.fill_half.ensures.gains c.fill_half-2.ensures.gains c.rank_pairs-pairs.ensures.same_a c.rank_pairs-pairs.ensures.same_b have in
+    (no_pairs forward a b loads have.ranked_a have.ranked_b are (sym have.gaining ∙ c.if-pairs-eq0.true), refl, refl)
 
 pub first_less-last-requires-clause-below : goal.first_less-last-requires-clause-below
 first_less-last-requires-clause-below g c =
@@ -121,9 +108,12 @@ first_less-last-requires-clause-below g c =
     let b = c.args.b.now in
     let table = c.args.degrees.now in
     let loads = c.args.degrees.now.loads in
-    let xs = c.rank_half.new.entries in
-    let ys = c.rank_half-2.new.entries in
-    docs_below (length forward.rows) a xs c.rank_half.ensures.same (below_left (length forward.rows) a b c.requires.places.below)
+    let old_x = c.fill_half.new.entries in
+    let old_y = c.fill_half-2.new.entries in
+    let xs = c.rank_pairs-pairs.new.a in
+    let ys = c.rank_pairs-pairs.new.b in
+    let have = c.rank_pairs-pairs.ensures.pairs in
+    docs_below (length forward.rows) a xs (docs_from a old_x xs c.fill_half.ensures.same c.rank_pairs-pairs.ensures.same_a) (below_left (length forward.rows) a b c.requires.places.below)
 
 pub first_less-last-requires-clause-below_b : goal.first_less-last-requires-clause-below_b
 first_less-last-requires-clause-below_b g c =
@@ -132,9 +122,12 @@ first_less-last-requires-clause-below_b g c =
     let b = c.args.b.now in
     let table = c.args.degrees.now in
     let loads = c.args.degrees.now.loads in
-    let xs = c.rank_half.new.entries in
-    let ys = c.rank_half-2.new.entries in
-    docs_below (length forward.rows) b ys c.rank_half-2.ensures.same (below_right (length forward.rows) a b c.requires.places.below)
+    let old_x = c.fill_half.new.entries in
+    let old_y = c.fill_half-2.new.entries in
+    let xs = c.rank_pairs-pairs.new.a in
+    let ys = c.rank_pairs-pairs.new.b in
+    let have = c.rank_pairs-pairs.ensures.pairs in
+    docs_below (length forward.rows) b ys (docs_from b old_y ys c.fill_half-2.ensures.same c.rank_pairs-pairs.ensures.same_b) (below_right (length forward.rows) a b c.requires.places.below)
 
 pub first_less-last-requires-clause-ready : goal.first_less-last-requires-clause-ready
 first_less-last-requires-clause-ready g c =
@@ -152,10 +145,13 @@ first_less-last-requires-clause-table g c =
     let b = c.args.b.now in
     let table = c.args.degrees.now in
     let loads = c.args.degrees.now.loads in
-    let xs = c.rank_half.new.entries in
-    let ys = c.rank_half-2.new.entries in
-    let are = AreRanked-from forward a b loads table xs ys c.is_sound.ensures.sound c.requires.places c.requires.table c.rank_half.ensures.same c.rank_half-2.ensures.same c.rank_half.ensures.gains c.rank_half-2.ensures.gains c.rank_half.ensures.ranked c.rank_half-2.ensures.ranked in
-    loaded_tried forward a b loads table xs ys are c.requires.table
+    let old_x = c.fill_half.new.entries in
+    let old_y = c.fill_half-2.new.entries in
+    let xs = c.rank_pairs-pairs.new.a in
+    let ys = c.rank_pairs-pairs.new.b in
+    let have = c.rank_pairs-pairs.ensures.pairs in
+    let are = ranked_by forward a b loads table c.rank_pairs-pairs.result old_x old_y xs ys c.is_sound.ensures.sound c.requires.places c.requires.table c.fill_half.ensures.same c.fill_half-2.ensures.same c.fill_half.ensures.gains c.fill_half-2.ensures.gains c.rank_pairs-pairs.ensures.same_a c.rank_pairs-pairs.ensures.same_b have in
+    loaded_tried forward a b loads table have.ranked_a have.ranked_b are c.requires.table ∙ sym (tried_same forward 0 loads c.rank_pairs-pairs.result xs ys have (omega arith))
 
 pub overflow_cast-result : goal.overflow_cast-result
 overflow_cast-result g c =
@@ -164,12 +160,15 @@ overflow_cast-result g c =
     let b = c.args.b.now in
     let table = c.args.degrees.now in
     let loads = c.args.degrees.now.loads in
-    let xs = c.rank_half.new.entries in
-    let ys = c.rank_half-2.new.entries in
+    let old_x = c.fill_half.new.entries in
+    let old_y = c.fill_half-2.new.entries in
+    let xs = c.rank_pairs-pairs.new.a in
+    let ys = c.rank_pairs-pairs.new.b in
+    let have = c.rank_pairs-pairs.ensures.pairs in
     let few = few_numbers (length forward.rows) (a ++ b) c.requires.places in
     let sound = c.is_sound.ensures.sound in
     let all = length-append a b in
-    record { fits = omega (arith, few, all, sound.ordered.small, sound.len, c.gaining_pairs-pairs.ensures.within_a, c.rank_half.auto.entries, c.requires.room) }
+    record { fits = omega (arith, few, all, sound.ordered.small, sound.len, have.within_a, c.rank_pairs-pairs.auto.a, c.fill_half.auto.entries, c.requires.room) }
 
 pub returns-then-last-eq0-clause-round : goal.returns-then-last-eq0-clause-round
 returns-then-last-eq0-clause-round g c =
@@ -178,17 +177,20 @@ returns-then-last-eq0-clause-round g c =
     let b = c.args.b.now in
     let table = c.args.degrees.now in
     let loads = c.args.degrees.now.loads in
-    let xs = c.rank_half.new.entries in
-    let ys = c.rank_half-2.new.entries in
-    let are = AreRanked-from forward a b loads table xs ys c.is_sound.ensures.sound c.requires.places c.requires.table c.rank_half.ensures.same c.rank_half-2.ensures.same c.rank_half.ensures.gains c.rank_half-2.ensures.gains c.rank_half.ensures.ranked c.rank_half-2.ensures.ranked in
+    let old_x = c.fill_half.new.entries in
+    let old_y = c.fill_half-2.new.entries in
+    let xs = c.rank_pairs-pairs.new.a in
+    let ys = c.rank_pairs-pairs.new.b in
+    let have = c.rank_pairs-pairs.ensures.pairs in
+    let are = ranked_by forward a b loads table c.rank_pairs-pairs.result old_x old_y xs ys c.is_sound.ensures.sound c.requires.places c.requires.table c.fill_half.ensures.same c.fill_half-2.ensures.same c.fill_half.ensures.gains c.fill_half-2.ensures.gains c.rank_pairs-pairs.ensures.same_a c.rank_pairs-pairs.ensures.same_b have in
     let last = c.first_less-last.result in
-    let same : c.gaining_pairs-pairs.result ≡ gaining xs ys = c.gaining_pairs-pairs.ensures.same in
+    let same : c.rank_pairs-pairs.result ≡ gaining have.ranked_a have.ranked_b = have.gaining in
     let before_back : to_z w128 (of_z w128 c.args.before) ≡ c.args.before = omega (arith, ints, c.ranges.before) in
-    let first : IsFirstLess forward (docs_of xs) (docs_of ys) (gaining xs ys) c.args.before last = subst (λ (z : ℤ). IsFirstLess forward (docs_of xs) (docs_of ys) (gaining xs ys) z last) before_back (subst (λ (n : ℕ). IsFirstLess forward (docs_of xs) (docs_of ys) n (to_z w128 (of_z w128 c.args.before)) last) same c.first_less-last.ensures.first) in
+    let first : IsFirstLess forward (docs_of have.ranked_a) (docs_of have.ranked_b) (gaining have.ranked_a have.ranked_b) c.args.before last = subst (λ (z : ℤ). IsFirstLess forward (docs_of have.ranked_a) (docs_of have.ranked_b) (gaining have.ranked_a have.ranked_b) z last) before_back (subst (λ (n : ℕ). IsFirstLess forward (docs_of have.ranked_a) (docs_of have.ranked_b) n (to_z w128 (of_z w128 c.args.before)) last) same (first_same forward c.rank_pairs-pairs.result xs ys have (to_z w128 (of_z w128 c.args.before)) last c.first_less-last.ensures.first)) in
     let before_is : c.args.before ≡ cost forward a b = c.requires.before ∙ ap cost_of c.requires.table ∙ loaded_cost forward a b loads in
     let fit : FitsSigned w128 last.first = search rules in
     let first_back : to_z w128 (of_z w128 last.first) ≡ last.first = omega (arith, ints, fit) in
-    (refused forward a b loads xs ys are c.args.before last _ before_is first (omega (arith, same, c.if-pairs-eq0.false)) c.if-last-eq0.true before_back first_back same, refl, refl)
+    (refused forward a b loads have.ranked_a have.ranked_b are c.args.before last _ before_is first (omega (arith, same, c.if-pairs-eq0.false)) c.if-last-eq0.true before_back first_back same, refl, refl)
 
 pub returns-then-last-eq0-clause-loaded : goal.returns-then-last-eq0-clause-loaded
 returns-then-last-eq0-clause-loaded g c =
@@ -197,10 +199,13 @@ returns-then-last-eq0-clause-loaded g c =
     let b = c.args.b.now in
     let table = c.args.degrees.now in
     let loads = c.args.degrees.now.loads in
-    let xs = c.rank_half.new.entries in
-    let ys = c.rank_half-2.new.entries in
-    let are = AreRanked-from forward a b loads table xs ys c.is_sound.ensures.sound c.requires.places c.requires.table c.rank_half.ensures.same c.rank_half-2.ensures.same c.rank_half.ensures.gains c.rank_half-2.ensures.gains c.rank_half.ensures.ranked c.rank_half-2.ensures.ranked in
-    c.first_less-last.ensures.table ∙ ap (λ (n : ℕ). tried forward (docs_of xs) (docs_of ys) n loads) c.if-last-eq0.true ∙ sym (loaded_tried forward a b loads table xs ys are c.requires.table) ∙ c.requires.table
+    let old_x = c.fill_half.new.entries in
+    let old_y = c.fill_half-2.new.entries in
+    let xs = c.rank_pairs-pairs.new.a in
+    let ys = c.rank_pairs-pairs.new.b in
+    let have = c.rank_pairs-pairs.ensures.pairs in
+    let are = ranked_by forward a b loads table c.rank_pairs-pairs.result old_x old_y xs ys c.is_sound.ensures.sound c.requires.places c.requires.table c.fill_half.ensures.same c.fill_half-2.ensures.same c.fill_half.ensures.gains c.fill_half-2.ensures.gains c.rank_pairs-pairs.ensures.same_a c.rank_pairs-pairs.ensures.same_b have in
+    c.first_less-last.ensures.table ∙ ap (λ (n : ℕ). tried forward (docs_of xs) (docs_of ys) n loads) c.if-last-eq0.true ∙ tried_same forward 0 loads c.rank_pairs-pairs.result xs ys have (omega arith) ∙ sym (loaded_tried forward a b loads table have.ranked_a have.ranked_b are c.requires.table) ∙ c.requires.table
 
 pub put_half-requires-clause-differ : goal.put_half-requires-clause-differ
 put_half-requires-clause-differ g c =
@@ -209,10 +214,13 @@ put_half-requires-clause-differ g c =
     let b = c.args.b.now in
     let table = c.args.degrees.now in
     let loads = c.args.degrees.now.loads in
-    let xs = c.rank_half.new.entries in
-    let ys = c.rank_half-2.new.entries in
-    let are = AreRanked-from forward a b loads table xs ys c.is_sound.ensures.sound c.requires.places c.requires.table c.rank_half.ensures.same c.rank_half-2.ensures.same c.rank_half.ensures.gains c.rank_half-2.ensures.gains c.rank_half.ensures.ranked c.rank_half-2.ensures.ranked in
-    both_differ c.first_less-last.result.pairs (docs_of xs) (docs_of ys) (all_differ forward a b loads xs ys are)
+    let old_x = c.fill_half.new.entries in
+    let old_y = c.fill_half-2.new.entries in
+    let xs = c.rank_pairs-pairs.new.a in
+    let ys = c.rank_pairs-pairs.new.b in
+    let have = c.rank_pairs-pairs.ensures.pairs in
+    let are = ranked_by forward a b loads table c.rank_pairs-pairs.result old_x old_y xs ys c.is_sound.ensures.sound c.requires.places c.requires.table c.fill_half.ensures.same c.fill_half-2.ensures.same c.fill_half.ensures.gains c.fill_half-2.ensures.gains c.rank_pairs-pairs.ensures.same_a c.rank_pairs-pairs.ensures.same_b have in
+    both_differ c.first_less-last.result.pairs (docs_of xs) (docs_of ys) (Differ-permutation (a ++ b) (docs_of xs ++ docs_of ys) (IsPermutation-append a (docs_of xs) b (docs_of ys) (docs_from a old_x xs c.fill_half.ensures.same c.rank_pairs-pairs.ensures.same_a) (docs_from b old_y ys c.fill_half-2.ensures.same c.rank_pairs-pairs.ensures.same_b)) c.requires.places.different)
 
 pub put_half-requires-2-clause-differ : goal.put_half-requires-2-clause-differ
 put_half-requires-2-clause-differ g c =
@@ -221,10 +229,13 @@ put_half-requires-2-clause-differ g c =
     let b = c.args.b.now in
     let table = c.args.degrees.now in
     let loads = c.args.degrees.now.loads in
-    let xs = c.rank_half.new.entries in
-    let ys = c.rank_half-2.new.entries in
-    let are = AreRanked-from forward a b loads table xs ys c.is_sound.ensures.sound c.requires.places c.requires.table c.rank_half.ensures.same c.rank_half-2.ensures.same c.rank_half.ensures.gains c.rank_half-2.ensures.gains c.rank_half.ensures.ranked c.rank_half-2.ensures.ranked in
-    both_differ c.first_less-last.result.pairs (docs_of ys) (docs_of xs) (all_differ_back forward a b loads xs ys are)
+    let old_x = c.fill_half.new.entries in
+    let old_y = c.fill_half-2.new.entries in
+    let xs = c.rank_pairs-pairs.new.a in
+    let ys = c.rank_pairs-pairs.new.b in
+    let have = c.rank_pairs-pairs.ensures.pairs in
+    let are = ranked_by forward a b loads table c.rank_pairs-pairs.result old_x old_y xs ys c.is_sound.ensures.sound c.requires.places c.requires.table c.fill_half.ensures.same c.fill_half-2.ensures.same c.fill_half.ensures.gains c.fill_half-2.ensures.gains c.rank_pairs-pairs.ensures.same_a c.rank_pairs-pairs.ensures.same_b have in
+    both_differ c.first_less-last.result.pairs (docs_of ys) (docs_of xs) (Differ-permutation (docs_of xs ++ docs_of ys) (docs_of ys ++ docs_of xs) (IsPermutation-append_comm (docs_of xs) (docs_of ys)) (Differ-permutation (a ++ b) (docs_of xs ++ docs_of ys) (IsPermutation-append a (docs_of xs) b (docs_of ys) (docs_from a old_x xs c.fill_half.ensures.same c.rank_pairs-pairs.ensures.same_a) (docs_from b old_y ys c.fill_half-2.ensures.same c.rank_pairs-pairs.ensures.same_b)) c.requires.places.different))
 
 pub overflow_cast-result-2 : goal.overflow_cast-result-2
 overflow_cast-result-2 g c =
@@ -233,12 +244,15 @@ overflow_cast-result-2 g c =
     let b = c.args.b.now in
     let table = c.args.degrees.now in
     let loads = c.args.degrees.now.loads in
-    let xs = c.rank_half.new.entries in
-    let ys = c.rank_half-2.new.entries in
+    let old_x = c.fill_half.new.entries in
+    let old_y = c.fill_half-2.new.entries in
+    let xs = c.rank_pairs-pairs.new.a in
+    let ys = c.rank_pairs-pairs.new.b in
+    let have = c.rank_pairs-pairs.ensures.pairs in
     let few = few_numbers (length forward.rows) (a ++ b) c.requires.places in
     let sound = c.is_sound.ensures.sound in
     let all = length-append a b in
-    record { fits = omega (arith, few, all, sound.ordered.small, sound.len, c.first_less-last.ensures.fewer, c.gaining_pairs-pairs.ensures.within_a, c.rank_half.auto.entries, c.requires.room) }
+    record { fits = omega (arith, few, all, sound.ordered.small, sound.len, c.first_less-last.ensures.fewer, have.within_a, c.rank_pairs-pairs.auto.a, c.fill_half.auto.entries, c.requires.room) }
 
 pub returns-clause-round : goal.returns-clause-round
 returns-clause-round g c =
@@ -247,17 +261,20 @@ returns-clause-round g c =
     let b = c.args.b.now in
     let table = c.args.degrees.now in
     let loads = c.args.degrees.now.loads in
-    let xs = c.rank_half.new.entries in
-    let ys = c.rank_half-2.new.entries in
-    let are = AreRanked-from forward a b loads table xs ys c.is_sound.ensures.sound c.requires.places c.requires.table c.rank_half.ensures.same c.rank_half-2.ensures.same c.rank_half.ensures.gains c.rank_half-2.ensures.gains c.rank_half.ensures.ranked c.rank_half-2.ensures.ranked in
+    let old_x = c.fill_half.new.entries in
+    let old_y = c.fill_half-2.new.entries in
+    let xs = c.rank_pairs-pairs.new.a in
+    let ys = c.rank_pairs-pairs.new.b in
+    let have = c.rank_pairs-pairs.ensures.pairs in
+    let are = ranked_by forward a b loads table c.rank_pairs-pairs.result old_x old_y xs ys c.is_sound.ensures.sound c.requires.places c.requires.table c.fill_half.ensures.same c.fill_half-2.ensures.same c.fill_half.ensures.gains c.fill_half-2.ensures.gains c.rank_pairs-pairs.ensures.same_a c.rank_pairs-pairs.ensures.same_b have in
     let last = c.first_less-last.result in
-    let same : c.gaining_pairs-pairs.result ≡ gaining xs ys = c.gaining_pairs-pairs.ensures.same in
+    let same : c.rank_pairs-pairs.result ≡ gaining have.ranked_a have.ranked_b = have.gaining in
     let before_back : to_z w128 (of_z w128 c.args.before) ≡ c.args.before = omega (arith, ints, c.ranges.before) in
-    let first : IsFirstLess forward (docs_of xs) (docs_of ys) (gaining xs ys) c.args.before last = subst (λ (z : ℤ). IsFirstLess forward (docs_of xs) (docs_of ys) (gaining xs ys) z last) before_back (subst (λ (n : ℕ). IsFirstLess forward (docs_of xs) (docs_of ys) n (to_z w128 (of_z w128 c.args.before)) last) same c.first_less-last.ensures.first) in
+    let first : IsFirstLess forward (docs_of have.ranked_a) (docs_of have.ranked_b) (gaining have.ranked_a have.ranked_b) c.args.before last = subst (λ (z : ℤ). IsFirstLess forward (docs_of have.ranked_a) (docs_of have.ranked_b) (gaining have.ranked_a have.ranked_b) z last) before_back (subst (λ (n : ℕ). IsFirstLess forward (docs_of have.ranked_a) (docs_of have.ranked_b) n (to_z w128 (of_z w128 c.args.before)) last) same (first_same forward c.rank_pairs-pairs.result xs ys have (to_z w128 (of_z w128 c.args.before)) last c.first_less-last.ensures.first)) in
     let before_is : c.args.before ≡ cost forward a b = c.requires.before ∙ ap cost_of c.requires.table ∙ loaded_cost forward a b loads in
     let fit : FitsSigned w128 last.after = search rules in
     let after_back : to_z w128 (of_z w128 last.after) ≡ last.after = omega (arith, ints, fit) in
-    kept forward a b loads xs ys are c.args.before last c.put_half.new.docs c.put_half-2.new.docs _ before_is first (omega (arith, c.if-last-eq0.false)) c.put_half.ensures.same c.put_half.ensures.rising c.put_half-2.ensures.same c.put_half-2.ensures.rising before_back after_back refl
+    kept forward a b loads have.ranked_a have.ranked_b are c.args.before last c.put_half.new.docs c.put_half-2.new.docs _ before_is first (omega (arith, c.if-last-eq0.false)) (put_same c.first_less-last.result.pairs c.rank_pairs-pairs.result xs ys have.ranked_a have.ranked_b c.put_half.new.docs c.first_less-last.ensures.fewer have.is_a have.is_b c.put_half.ensures.same) c.put_half.ensures.rising (put_same c.first_less-last.result.pairs c.rank_pairs-pairs.result ys xs have.ranked_b have.ranked_a c.put_half-2.new.docs c.first_less-last.ensures.fewer have.is_b have.is_a c.put_half-2.ensures.same) c.put_half-2.ensures.rising before_back after_back refl
 
 pub returns-clause-loaded : goal.returns-clause-loaded
 returns-clause-loaded g c =
@@ -266,10 +283,13 @@ returns-clause-loaded g c =
     let b = c.args.b.now in
     let table = c.args.degrees.now in
     let loads = c.args.degrees.now.loads in
-    let xs = c.rank_half.new.entries in
-    let ys = c.rank_half-2.new.entries in
-    let are = AreRanked-from forward a b loads table xs ys c.is_sound.ensures.sound c.requires.places c.requires.table c.rank_half.ensures.same c.rank_half-2.ensures.same c.rank_half.ensures.gains c.rank_half-2.ensures.gains c.rank_half.ensures.ranked c.rank_half-2.ensures.ranked in
-    c.first_less-last.ensures.table ∙ loaded_after forward a b loads xs ys are c.first_less-last.result.pairs c.put_half.new.docs c.put_half-2.new.docs (omega (arith, c.first_less-last.ensures.fewer, c.gaining_pairs-pairs.ensures.same)) c.put_half.ensures.same c.put_half-2.ensures.same
+    let old_x = c.fill_half.new.entries in
+    let old_y = c.fill_half-2.new.entries in
+    let xs = c.rank_pairs-pairs.new.a in
+    let ys = c.rank_pairs-pairs.new.b in
+    let have = c.rank_pairs-pairs.ensures.pairs in
+    let are = ranked_by forward a b loads table c.rank_pairs-pairs.result old_x old_y xs ys c.is_sound.ensures.sound c.requires.places c.requires.table c.fill_half.ensures.same c.fill_half-2.ensures.same c.fill_half.ensures.gains c.fill_half-2.ensures.gains c.rank_pairs-pairs.ensures.same_a c.rank_pairs-pairs.ensures.same_b have in
+    c.first_less-last.ensures.table ∙ tried_same forward c.first_less-last.result.pairs loads c.rank_pairs-pairs.result xs ys have c.first_less-last.ensures.fewer ∙ loaded_after forward a b loads have.ranked_a have.ranked_b are c.first_less-last.result.pairs c.put_half.new.docs c.put_half-2.new.docs (omega (arith, c.first_less-last.ensures.fewer, have.gaining)) (put_same c.first_less-last.result.pairs c.rank_pairs-pairs.result xs ys have.ranked_a have.ranked_b c.put_half.new.docs c.first_less-last.ensures.fewer have.is_a have.is_b c.put_half.ensures.same) (put_same c.first_less-last.result.pairs c.rank_pairs-pairs.result ys xs have.ranked_b have.ranked_a c.put_half-2.new.docs c.first_less-last.ensures.fewer have.is_b have.is_a c.put_half-2.ensures.same)
 
 pub returns-clause-same : goal.returns-clause-same
 returns-clause-same g c =
@@ -278,7 +298,16 @@ returns-clause-same g c =
     let b = c.args.b.now in
     let table = c.args.degrees.now in
     let loads = c.args.degrees.now.loads in
-    let xs = c.rank_half.new.entries in
-    let ys = c.rank_half-2.new.entries in
-    let are = AreRanked-from forward a b loads table xs ys c.is_sound.ensures.sound c.requires.places c.requires.table c.rank_half.ensures.same c.rank_half-2.ensures.same c.rank_half.ensures.gains c.rank_half-2.ensures.gains c.rank_half.ensures.ranked c.rank_half-2.ensures.ranked in
-    both_permuted c.first_less-last.result.pairs a b (docs_of xs) (docs_of ys) c.put_half.new.docs c.put_half-2.new.docs c.rank_half.ensures.same c.rank_half-2.ensures.same c.put_half.ensures.same c.put_half-2.ensures.same
+    let old_x = c.fill_half.new.entries in
+    let old_y = c.fill_half-2.new.entries in
+    let xs = c.rank_pairs-pairs.new.a in
+    let ys = c.rank_pairs-pairs.new.b in
+    let have = c.rank_pairs-pairs.ensures.pairs in
+    let are = ranked_by forward a b loads table c.rank_pairs-pairs.result old_x old_y xs ys c.is_sound.ensures.sound c.requires.places c.requires.table c.fill_half.ensures.same c.fill_half-2.ensures.same c.fill_half.ensures.gains c.fill_half-2.ensures.gains c.rank_pairs-pairs.ensures.same_a c.rank_pairs-pairs.ensures.same_b have in
+    both_permuted c.first_less-last.result.pairs a b (docs_of xs) (docs_of ys) c.put_half.new.docs c.put_half-2.new.docs (docs_from a old_x xs c.fill_half.ensures.same c.rank_pairs-pairs.ensures.same_a) (docs_from b old_y ys c.fill_half-2.ensures.same c.rank_pairs-pairs.ensures.same_b) c.put_half.ensures.same c.put_half-2.ensures.same
+
+pub rank_pairs-pairs-requires-clause-differ_a : goal.rank_pairs-pairs-requires-clause-differ_a
+rank_pairs-pairs-requires-clause-differ_a g c = subst Differ (sym c.fill_half.ensures.same) (Differ-left c.args.a.now c.args.b.now c.requires.places.different)
+
+pub rank_pairs-pairs-requires-clause-differ_b : goal.rank_pairs-pairs-requires-clause-differ_b
+rank_pairs-pairs-requires-clause-differ_b g c = subst Differ (sym c.fill_half-2.ensures.same) (Differ-right c.args.a.now c.args.b.now c.requires.places.different)

@@ -5,7 +5,7 @@ use Rattle.degrees.specs.Cost.{degree}
 use Rattle.degrees.specs.Counts.{cost_of}
 use Rattle.exchange.specs.Tries.{docs_of}
 use Rattle.exchange.proofs.Bounds.{fits_wide, read_back_wide}
-use Rattle.exchange.proofs.Ranked.{no_entry}
+use Rattle.exchange.specs.Tries.{no_entry}
 use Rattle.exchange.proofs.Many.{front_of, none_across, now_terms, now_ready, now_counted, now_moved, now_costs, saved_more}
 use Rattle.exchange.proofs.tries.move_all.Goals as goal
 
