@@ -1,8 +1,9 @@
 -- What the operands and values of a line say of the command that it spells.
-use Rattle.std.proofs.Common.{◌≡◌, ℕ, List, [], ◌∷◌, Option, Some, None, slice_get, sym, ap, ◌∙◌, refl}
+use Rattle.std.proofs.Common.{◌≡◌, ◌⊎◌, ◌↔◌, ℕ, Bool, true, false, IsTrue, List, [], ◌∷◌, Option, Some, None, slice_get, sym, ap, subst, ◌∙◌, refl, inl, inr, if◌then◌else◌}
 use Rattle.std.proofs.lemmas.Option.{same_Some, none-some}
-use Rattle.command_words.specs.Line.{Word, Finds, OfParts, operands_of, values_of, ComesTo, Follow}
-use Rattle.command_words.specs.Command.{Command, copy, report, copy_row, report_row, workers_option, IsCommand, SpellsOnly, Answers}
+use Rattle.command_words.specs.Line.{Word, Part, OptionRow, Finds, OfParts, operands_of, values_of, ComesTo, ComeTo, Follow}
+use Rattle.command_words.specs.declared.reordering.Reordering.{Reordering}
+use Rattle.command_words.specs.Command.{Command, copy, report, reorder, copy_row, report_row, reorder_row, workers_option, depth_option, rounds_option, leaf_option, step_option, min_df_option, start_option, reordering_options, numbers_of, IsCommand, SpellsOnly, Answers}
 use Rattle.command_words.proofs.Parting.{same_behind, two_operands, one_operand_name}
 
 -- the operand at a place is this
@@ -21,6 +22,7 @@ only_copy words input output first second (copy i o) line =
     let two : output ≡ o = same_Some output o (second line.follow.parts are ∙ ap (λ ns. slice_get ns 1) line.operands) in
     ap (λ n. copy n o) (sym one) ∙ ap (copy input) (sym two)
 only_copy words input output first second (report i w) line = let e : copy_row.name ∷ words ≡ report_row.name ∷ line.behind = line.named in absurd (cc)
+only_copy words input output first second (reorder i o k) line = let e : copy_row.name ∷ words ≡ reorder_row.name ∷ line.behind = line.named in absurd (cc)
 
 pub copy_line : (words : List Word) (input output : Word) → Follow 2 [] words → Operand words 0 input → Operand words 1 output → SpellsOnly (copy_row.name ∷ words) (copy input output)
 copy_line words input output follow first second = record {
@@ -42,6 +44,7 @@ only_report words input workers first value (report i w) line =
     let two : workers ≡ w = same_Some workers w ((value line.follow.parts are w).1 line.options.0) in
     ap (λ n. report n w) (sym one) ∙ ap (report input) (sym two)
 only_report words input workers first value (copy i o) line = let e : report_row.name ∷ words ≡ copy_row.name ∷ line.behind = line.named in absurd (cc)
+only_report words input workers first value (reorder i o k) line = let e : report_row.name ∷ words ≡ reorder_row.name ∷ line.behind = line.named in absurd (cc)
 
 pub report_line : (words : List Word) (input : Word) (workers : ℕ) → Follow 1 (workers_option ∷ []) words → Operand words 0 input → Workers words (Some workers)
     → SpellsOnly (report_row.name ∷ words) (report input workers)
@@ -61,3 +64,132 @@ no_workers words none (report i w) line =
     let are = same_behind report_row.name words line.behind line.follow.parts line.named line.follow.whole in
     none-some w ((none line.follow.parts are w).1 line.options.0)
 no_workers words none (copy i o) line = let e : report_row.name ∷ words ≡ copy_row.name ∷ line.behind = line.named in absurd (cc)
+no_workers words none (reorder i o k) line = let e : report_row.name ∷ words ≡ reorder_row.name ∷ line.behind = line.named in absurd (cc)
+
+-- ---- the options of a reordering
+
+-- the option comes to this in these parts
+abbrev Says : List Part → OptionRow → Option ℕ → Type 0
+Says parts option found = Finds found (ComesTo option (values_of option.name parts))
+
+-- an option that comes to nothing
+pub says_none : (parts : List Part) (option : OptionRow) (number : ℕ) → Says parts option None → ComesTo option (values_of option.name parts) number → ⊥
+says_none parts option number none comes = none-some number ((none number).1 comes)
+
+says_one : (parts : List Part) (option : OptionRow) (found number : ℕ) → Says parts option (Some found) → ComesTo option (values_of option.name parts) number → number ≡ found
+says_one parts option found number says comes = sym (same_Some found number ((says number).1 comes))
+
+says_it : (parts : List Part) (option : OptionRow) (found : ℕ) → Says parts option (Some found) → ComesTo option (values_of option.name parts) found
+says_it parts option found says = (says found).0 refl
+
+-- the number of a start order, of which 1 is that by name
+abbrev start_number : Bool → ℕ
+start_number by_name = if by_name then 1 else 0
+
+same_start : (a b : Bool) → start_number a ≡ start_number b → a ≡ b
+same_start true true e = refl
+same_start true false e = absurd (cc)
+same_start false true e = absurd (cc)
+same_start false false e = refl
+
+-- the word means 0 or 1
+place_is : (a b : Bool) (n : ℕ) → (if a then Some 0 else (if b then Some 1 else None)) ≡ Some n → (n ≡ 0) ⊎ (n ≡ 1)
+place_is true b n e = inl (sym (same_Some 0 n e))
+place_is false true n e = inr (sym (same_Some 1 n e))
+place_is false false n e = absurd (none-some n e)
+
+start_is : (values : List Word) (n : ℕ) → ComesTo start_option values n → (n ≡ 0) ⊎ (n ≡ 1)
+start_is [] n e = inl e
+start_is (word ∷ []) n e = place_is _ _ n e
+start_is (word ∷ other ∷ others) n e = absurd e
+
+start_found : (by_name : Bool) (start : ℕ) → (start ≡ 0) ⊎ (start ≡ 1) → (IsTrue by_name ↔ (start ≡ 1)) → start_number by_name ≡ start
+start_found true start either_one is = sym (is.0 refl)
+start_found false start (inl e) is = sym e
+start_found false start (inr e) is = absurd (let no : false ≡ true = is.1 e in cc)
+
+-- equal options make equal reorderings
+made : ℕ → ℕ → ℕ → ℕ → ℕ → ℕ → Bool → Reordering
+made depth rounds leaf workers step min_df by_name = record { depth = depth; rounds = rounds; leaf = leaf; workers = workers; step = step; min_df = min_df; by_name = by_name }
+
+made_of : (a : Reordering) → made a.depth a.rounds a.leaf a.workers a.step a.min_df a.by_name ≡ a
+unfolding made
+made_of a = refl
+
+same_reordering : (a b : Reordering) → a.depth ≡ b.depth → a.rounds ≡ b.rounds → a.leaf ≡ b.leaf → a.workers ≡ b.workers → a.step ≡ b.step → a.min_df ≡ b.min_df → a.by_name ≡ b.by_name → a ≡ b
+same_reordering a b depth rounds leaf workers step min_df by_name =
+    let left = made_of a in
+    let right = made_of b in
+    cc
+
+-- what all of the options come to
+pub reordering_is : (parts : List Part) (found : Reordering) (start : ℕ) → Says parts depth_option (Some found.depth) → Says parts rounds_option (Some found.rounds) → Says parts leaf_option (Some found.leaf)
+    → Says parts workers_option (Some found.workers) → Says parts step_option (Some found.step) → Says parts min_df_option (Some found.min_df) → Says parts start_option (Some start)
+    → (IsTrue found.by_name ↔ (start ≡ 1)) → (options : Reordering) → (Some found ≡ Some options) ↔ ComeTo parts reordering_options (numbers_of options)
+reordering_is parts found start depth rounds leaf workers step min_df order is options = (
+  (λ e. subst (λ o. ComeTo parts reordering_options (numbers_of o)) (same_Some found options e) own),
+  (λ comes. ap (λ o. Some o) (sym (same_reordering options found
+      (says_one parts depth_option found.depth options.depth depth comes.0) (says_one parts rounds_option found.rounds options.rounds rounds comes.1.0)
+      (says_one parts leaf_option found.leaf options.leaf leaf comes.1.1.0) (says_one parts workers_option found.workers options.workers workers comes.1.1.1.0)
+      (says_one parts step_option found.step options.step step comes.1.1.1.1.0) (says_one parts min_df_option found.min_df options.min_df min_df comes.1.1.1.1.1.0)
+      (same_start options.by_name found.by_name (says_one parts start_option start (start_number options.by_name) order comes.1.1.1.1.1.1.0 ∙ sym own_start))))),
+)
+  where
+    own_start : start_number found.by_name ≡ start
+    own_start = start_found found.by_name start (start_is (values_of start_option.name parts) start (says_it parts start_option start order)) is
+
+    own : ComeTo parts reordering_options (numbers_of found)
+    own = (
+      says_it parts depth_option found.depth depth,
+      (
+        says_it parts rounds_option found.rounds rounds,
+        (
+          says_it parts leaf_option found.leaf leaf,
+          (
+            says_it parts workers_option found.workers workers,
+            (
+              says_it parts step_option found.step step,
+              (
+                says_it parts min_df_option found.min_df min_df,
+                (subst (λ n. ComesTo start_option (values_of start_option.name parts) n) (sym own_start) (says_it parts start_option start order), tt),
+              ),
+            ),
+          ),
+        ),
+      ),
+    )
+
+-- what the words behind `reorder` say of the options
+abbrev Reorders : List Word → Option Reordering → Type 0
+Reorders words found = OfParts words (λ parts. (options : Reordering) → (found ≡ Some options) ↔ ComeTo parts reordering_options (numbers_of options))
+
+only_reorder : (words : List Word) (input output : Word) (options : Reordering) → Operand words 0 input → Operand words 1 output → Reorders words (Some options)
+    → (other : Command) → IsCommand (reorder_row.name ∷ words) other → other ≡ reorder input output options
+only_reorder words input output options first second all (reorder i o k) line =
+    let are = same_behind reorder_row.name words line.behind line.follow.parts line.named line.follow.whole in
+    let one : input ≡ i = same_Some input i (first line.follow.parts are ∙ ap (λ ns. slice_get ns 0) line.operands) in
+    let two : output ≡ o = same_Some output o (second line.follow.parts are ∙ ap (λ ns. slice_get ns 1) line.operands) in
+    let three : options ≡ k = same_Some options k ((all line.follow.parts are k).1 line.options) in
+    ap (λ n. reorder n o k) (sym one) ∙ ap (λ n. reorder input n k) (sym two) ∙ ap (reorder input output) (sym three)
+only_reorder words input output options first second all (copy i o) line = let e : reorder_row.name ∷ words ≡ copy_row.name ∷ line.behind = line.named in absurd (cc)
+only_reorder words input output options first second all (report i w) line = let e : reorder_row.name ∷ words ≡ report_row.name ∷ line.behind = line.named in absurd (cc)
+
+pub reorder_line : (words : List Word) (input output : Word) (options : Reordering) → Follow 2 reordering_options words → Operand words 0 input → Operand words 1 output → Reorders words (Some options)
+    → SpellsOnly (reorder_row.name ∷ words) (reorder input output options)
+reorder_line words input output options follow first second all = record {
+  spelt = record {
+    behind = words;
+    named = refl;
+    follow = follow;
+    operands = two_operands (operands_of follow.parts) input output follow.count (first follow.parts follow.whole) (second follow.parts follow.whole);
+    options = (all follow.parts follow.whole options).0 refl;
+  };
+  only = only_reorder words input output options first second all;
+}
+
+pub no_reordering : (words : List Word) → Reorders words None → Answers (reorder_row.name ∷ words) None
+no_reordering words none (reorder i o k) line =
+    let are = same_behind reorder_row.name words line.behind line.follow.parts line.named line.follow.whole in
+    none-some k ((none line.follow.parts are k).1 line.options)
+no_reordering words none (copy i o) line = let e : reorder_row.name ∷ words ≡ copy_row.name ∷ line.behind = line.named in absurd (cc)
+no_reordering words none (report i w) line = let e : reorder_row.name ∷ words ≡ report_row.name ∷ line.behind = line.named in absurd (cc)

@@ -1,18 +1,33 @@
 //! The commands that words spell.
-ghost use Rattle.std.specs.Prelude.{◌∷◌, option_map};
-ghost use Rattle.command_words.specs.Command.{Answers, copy_row, report_row, texts_of};
+ghost use Rattle.std.specs.Prelude.{◌≡◌, ◌↔◌, ◌∷◌, Some, option_map};
+ghost use Rattle.command_words.specs.Line.{OfParts, ComeTo};
+ghost use Rattle.command_words.specs.Command.{Answers, copy_row, report_row, reorder_row, reordering_options, numbers_of, texts_of};
 ghost use Rattle.command_words.specs.View.{command_seen};
 
 use crate::part::{follow, operand, value_of};
-use crate::table::{COPY, REPORT, WORKERS};
+use crate::reordering::Reordering;
+use crate::table::{COPY, DEPTH, LEAF, MIN_DF, REORDER, REPORT, ROUNDS, START, STEP, WORKERS};
 
 /// A command with its operands and the numbers of its options.
 #[derive(Clone, Copy, Debug, PartialEq, Eq)]
 pub enum Command<'a> {
     /// Writes the index of the file `input` to the file `output`.
-    Copy { input: &'a str, output: &'a str },
+    Copy {
+        input: &'a str,
+        output: &'a str,
+    },
     /// Prints the gap costs of the index of the file `input`, worked out by so many threads.
-    Report { input: &'a str, workers: u32 },
+    Report {
+        input: &'a str,
+        workers: u32,
+    },
+    /// Renumbers the documents of the index of the file `input`, writes it to the file `output`, and
+    /// prints the kept rounds and the gap costs before and after.
+    Reorder {
+        input: &'a str,
+        output: &'a str,
+        options: Reordering,
+    },
 }
 
 // The words behind `copy`.
@@ -39,6 +54,46 @@ fn report_of(words: &[String]) -> Option<Command<'_>>
     Some(Command::Report { input, workers })
 }
 
+// What the options of a reordering come to in a line.
+fn reordering_of(words: &[String]) -> Option<Reordering>
+    ensures { OfParts (texts_of words.now) (λ parts. (options : Reordering)
+        → (result ≡ Some options) ↔ ComeTo parts reordering_options (numbers_of options)) }
+{
+    let depth = value_of(words, &DEPTH)?;
+    let rounds = value_of(words, &ROUNDS)?;
+    let leaf = value_of(words, &LEAF)?;
+    let workers = value_of(words, &WORKERS)?;
+    let step = value_of(words, &STEP)?;
+    let min_df = value_of(words, &MIN_DF)?;
+    let start = value_of(words, &START)?;
+    Some(Reordering {
+        depth,
+        rounds,
+        leaf,
+        workers,
+        step,
+        min_df,
+        by_name: start == 1,
+    })
+}
+
+// The words behind `reorder`.
+fn reorder_of(words: &[String]) -> Option<Command<'_>>
+    ensures { Answers (reorder_row.name ∷ texts_of words.now) (option_map command_seen result) }
+{
+    if !follow(words, &REORDER) {
+        return None;
+    }
+    let input = operand(words, 0)?;
+    let output = operand(words, 1)?;
+    let options = reordering_of(words)?;
+    Some(Command::Reorder {
+        input,
+        output,
+        options,
+    })
+}
+
 /// The command that the words spell, or nothing where they spell none. It takes no memory.
 pub fn command_of(words: &[String]) -> Option<Command<'_>>
     ensures command { Answers (texts_of words.now) (option_map command_seen result) }
@@ -49,6 +104,7 @@ pub fn command_of(words: &[String]) -> Option<Command<'_>>
     match name.as_str() {
         "copy" => copy_of(rest),
         "report" => report_of(rest),
+        "reorder" => reorder_of(rest),
         _ => None,
     }
 }

@@ -4,9 +4,11 @@
 mod command;
 mod number;
 mod part;
+mod reordering;
 mod table;
 
 pub use command::{Command, command_of};
+pub use reordering::Reordering;
 
 #[cfg(test)]
 mod tests;

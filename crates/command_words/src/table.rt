@@ -33,6 +33,60 @@ pub(crate) const WORKERS: OptionRow = OptionRow {
     default: 1,
 };
 
+/// How many levels of halving a reordering makes at most.
+pub(crate) const DEPTH: OptionRow = OptionRow {
+    name: "--depth",
+    values: Values::Numbers { least: 0, most: 31 },
+    default: 31,
+};
+
+/// How many rounds of exchanges a halving makes at most.
+pub(crate) const ROUNDS: OptionRow = OptionRow {
+    name: "--rounds",
+    values: Values::Numbers {
+        least: 0,
+        most: 100,
+    },
+    default: 20,
+};
+
+/// A cell of so many documents or fewer isn't halved.
+pub(crate) const LEAF: OptionRow = OptionRow {
+    name: "--leaf",
+    values: Values::Numbers {
+        least: 1,
+        most: 2147483647,
+    },
+    default: 16,
+};
+
+/// How many levels a slab has.
+pub(crate) const STEP: OptionRow = OptionRow {
+    name: "--step",
+    values: Values::Numbers { least: 1, most: 31 },
+    default: 4,
+};
+
+/// A list of fewer postings has no part in costs and gains.
+pub(crate) const MIN_DF: OptionRow = OptionRow {
+    name: "--min-df",
+    values: Values::Numbers {
+        least: 1,
+        most: 2147483647,
+    },
+    default: 1,
+};
+
+/// The order in which the documents stand at the start.
+pub(crate) const START: OptionRow = OptionRow {
+    name: "--start",
+    values: Values::Either("number", "name"),
+    default: 0,
+};
+
+/// The options of a reordering.
+pub(crate) const REORDERING: &[OptionRow] = &[DEPTH, ROUNDS, LEAF, WORKERS, STEP, MIN_DF, START];
+
 /// `copy IN OUT`
 pub(crate) const COPY: Row = Row {
     name: "copy",
@@ -45,4 +99,11 @@ pub(crate) const REPORT: Row = Row {
     name: "report",
     operands: 1,
     options: &[WORKERS],
+};
+
+/// `reorder IN OUT`
+pub(crate) const REORDER: Row = Row {
+    name: "reorder",
+    operands: 2,
+    options: REORDERING,
 };

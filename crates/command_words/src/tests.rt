@@ -2,6 +2,7 @@
 use crate::command::{Command, command_of};
 use crate::number::meaning;
 use crate::part::{follow, operand, value_of};
+use crate::reordering::Reordering;
 use crate::table::{OptionRow, Row, Values};
 use std::alloc::Global;
 use std::test::Fail;
@@ -93,7 +94,178 @@ fn values_that_are_no_number_of_the_range(rt: HostRuntime) -> Result<(), Fail> {
     Ok(())
 }
 
-/// A row with what no command has yet: several options, the whole range of a number, and one of two words.
+/// What a reordering is where nothing is said.
+const PLAIN: Reordering = Reordering {
+    depth: 31,
+    rounds: 20,
+    leaf: 16,
+    workers: 1,
+    step: 4,
+    min_df: 1,
+    by_name: false,
+};
+
+#[test]
+fn words_that_are_a_reordering(rt: HostRuntime) -> Result<(), Fail> {
+    let all: &[&str] = &[
+        "reorder",
+        "--start",
+        "name",
+        "--min-df",
+        "7",
+        "a",
+        "--step",
+        "6",
+        "--workers",
+        "5",
+        "--leaf",
+        "4",
+        "b",
+        "--rounds",
+        "3",
+        "--depth",
+        "2",
+    ];
+    let options = Reordering {
+        depth: 2,
+        rounds: 3,
+        leaf: 4,
+        workers: 5,
+        step: 6,
+        min_df: 7,
+        by_name: true,
+    };
+    let rows: [(&[&str], &str, &str, Reordering); 4] = [
+        (&["reorder", "a", "b"], "a", "b", PLAIN),
+        (&["reorder", "b", "b"], "b", "b", PLAIN),
+        (
+            &["reorder", "name", "--start", "number", "number"],
+            "name",
+            "number",
+            PLAIN,
+        ),
+        (all, "a", "b", options),
+    ];
+    for (words, input, output, options) in rows {
+        let words = words_of(rt.alloc(), words)?;
+        let command = Command::Reorder {
+            input,
+            output,
+            options,
+        };
+        assert_eq!(rt; command_of(&words), Some(command), "{words:?}");
+    }
+    Ok(())
+}
+
+#[test]
+fn ends_of_the_ranges_of_a_reordering(rt: HostRuntime) -> Result<(), Fail> {
+    let rows: [(&str, &str, Reordering); 12] = [
+        ("--depth", "0", Reordering { depth: 0, ..PLAIN }),
+        ("--depth", "31", Reordering { depth: 31, ..PLAIN }),
+        ("--rounds", "0", Reordering { rounds: 0, ..PLAIN }),
+        (
+            "--rounds",
+            "100",
+            Reordering {
+                rounds: 100,
+                ..PLAIN
+            },
+        ),
+        ("--leaf", "1", Reordering { leaf: 1, ..PLAIN }),
+        (
+            "--leaf",
+            "2147483647",
+            Reordering {
+                leaf: 2147483647,
+                ..PLAIN
+            },
+        ),
+        (
+            "--workers",
+            "1",
+            Reordering {
+                workers: 1,
+                ..PLAIN
+            },
+        ),
+        (
+            "--workers",
+            "64",
+            Reordering {
+                workers: 64,
+                ..PLAIN
+            },
+        ),
+        ("--step", "1", Reordering { step: 1, ..PLAIN }),
+        ("--step", "31", Reordering { step: 31, ..PLAIN }),
+        ("--min-df", "1", Reordering { min_df: 1, ..PLAIN }),
+        (
+            "--min-df",
+            "2147483647",
+            Reordering {
+                min_df: 2147483647,
+                ..PLAIN
+            },
+        ),
+    ];
+    for (name, value, options) in rows {
+        let words = words_of(rt.alloc(), &["reorder", "a", "b", name, value])?;
+        let command = Command::Reorder {
+            input: "a",
+            output: "b",
+            options,
+        };
+        assert_eq!(rt; command_of(&words), Some(command), "{name} {value}");
+    }
+    Ok(())
+}
+
+#[test]
+fn words_that_are_no_reordering(rt: HostRuntime) -> Result<(), Fail> {
+    let values = [
+        ("--depth", "32"),
+        ("--depth", "-1"),
+        ("--rounds", "101"),
+        ("--leaf", "0"),
+        ("--leaf", "2147483648"),
+        ("--workers", "0"),
+        ("--workers", "65"),
+        ("--step", "0"),
+        ("--step", "32"),
+        ("--min-df", "0"),
+        ("--min-df", "2147483648"),
+        ("--start", "0"),
+        ("--start", "Name"),
+        ("--start", ""),
+        ("--readers", "2"),
+        ("--number", "1"),
+        ("--min_df", "1"),
+        ("--depth=3", "3"),
+    ];
+    for (name, value) in values {
+        let words = words_of(rt.alloc(), &["reorder", "a", "b", name, value])?;
+        assert_eq!(rt; command_of(&words), None, "{name} {value}");
+    }
+    let rows: [&[&str]; 9] = [
+        &["reorder"],
+        &["reorder", "a"],
+        &["reorder", "a", "b", "c"],
+        &["Reorder", "a", "b"],
+        &["reorder", "a", "b", "--depth"],
+        &["reorder", "a", "b", "--depth=3"],
+        &["reorder", "a", "b", "--depth", "1", "--depth", "1"],
+        &["reorder", "--start", "name", "a", "b", "--start", "number"],
+        &["reorder", "a", "--step", "b"],
+    ];
+    for words in rows {
+        let words = words_of(rt.alloc(), words)?;
+        assert_eq!(rt; command_of(&words), None, "{words:?}");
+    }
+    Ok(())
+}
+
+/// A row with what no command has yet: the whole range of a number.
 const SAMPLE: Row = Row {
     name: "sample",
     operands: 1,
