@@ -1,5 +1,6 @@
 -- What the steps of each command come to.
-use Rattle.std.proofs.Common.{◌≡◌, ℕ, ◌<◌, ◌≤◌, List, [], ◌∷◌, Option, Some, None, IsSomeAnd, IfSome, refl, sym, ap, subst, ◌∙◌, inl, inr, arith}
+use Rattle.std.proofs.Common.{◌≡◌, ℕ, ◌<◌, ◌≤◌, List, [], ◌∷◌, Option, Some, None, IsSomeAnd, IfSome, Result, Ok, Err, refl, sym, ap, subst, ◌∙◌, inl, inr, arith}
+use Rattle.std.specs.Result.{IsErrAnd, MatchResult}
 use Rattle.std.specs.FinMap.{get}
 use Rattle.rgb_base.specs.Parts.{IndexParts}
 use Rattle.rgb_host.specs.Files.{Files, IsMissing}
@@ -12,12 +13,20 @@ use Rattle.ciff_reader.specs.Reading.{OfFile, Explains}
 use Rattle.ciff_reader.specs.declared.error.ReadError.{ReadError}
 use Rattle.ciff_reader.specs.declared.error.ReadError.TheVariants as errors
 use Rattle.command_words.specs.Line.{Word, ComesTo as OptionComesTo}
-use Rattle.command_words.specs.Command.{Command, copy, report, workers_option, IsCommand}
-use Rattle.rgb_app.specs.Text.{index_line, report_text}
+use Rattle.command_words.specs.Command.{Command, copy, report, reorder, workers_option, IsCommand}
+use Rattle.command_words.specs.declared.reordering.Reordering.{Reordering}
+use Rattle.bisection.specs.declared.trace.KeptRound.{KeptRound}
+use Rattle.rgb_app.specs.Text.{index_line, report_text, reorder_text}
+use Rattle.rgb_app.specs.Reordering.{IsReordered}
 use Rattle.rgb_app.specs.Outcome.{Input, index_file, inputs_of, done, malformed, missing, writing, printing, FirstStops, ComesTo}
 use Rattle.rgb_app.specs.Status.{status_of_read}
 use Rattle.rgb_app.specs.Ends.{MayComeTo, delivered, IsCutOff, Says}
 use Rattle.rgb_app.specs.declared.status.Status.TheVariants.{Done, WriteFault}
+
+-- an error that a question mark hands on
+pub told_error : {T E : Type 0} (result : Result T E) (P : Type 0) (Q : E → Type 0) (error : E) → IsErrAnd result (λ e. e ≡ error) → Q error → MatchResult result (λ _. P) Q
+told_error (Ok x) P Q error is q = absurd is
+told_error (Err e) P Q error is q = subst Q (sym is) q
 
 -- ---- the first file that a command reads
 
@@ -91,3 +100,25 @@ in_range (word ∷ other ∷ others) workers means = absurd means
 
 pub workers_in_range : (words : List Word) (input : Word) (workers : ℕ) → IsCommand words (report input workers) → (0 < workers) × (workers ≤ 64)
 workers_in_range words input workers line = in_range _ workers line.options.0
+
+-- ---- reorder
+
+reorder_comes : (told : Option Files) (input output : Word) (options : Reordering) (index new : IndexParts) (trace : List KeptRound) → IfSome told (λ files. IsSomeAnd (get files input) (λ file. Accepted file index))
+    → IsReordered options index new trace → IfSome told (λ files. ComesTo (reorder input output options) files (done (writing output (bytes_of new) (reorder_text index new trace))))
+reorder_comes None input output options index new trace holds is = tt
+reorder_comes (Some files) input output options index new trace holds is = (index, new, trace, holds, is, refl)
+
+reorder_work : (input output : Word) (options : Reordering) (index new : IndexParts) (trace : List KeptRound) (text : List ℕ) (before : Seen) → OfFile before input (λ file. Accepted file index)
+    → IsReordered options index new trace → text ≡ reorder_text index new trace → MayComeTo (reorder input output options) before (done (writing output (bytes_of new) text))
+reorder_work input output options index new trace text before holds is same =
+    subst (λ t. MayComeTo (reorder input output options) before (done (writing output (bytes_of new) t))) (sym same) (reorder_comes before.files input output options index new trace holds is)
+
+pub reordered : (input output : Word) (options : Reordering) (index new : IndexParts) (trace : List KeptRound) (text : List ℕ) (before read after : Seen) → OfFile before input (λ file. Accepted file index)
+    → IsReordered options index new trace → text ≡ reorder_text index new trace → read ≡ before → after ≡ delivered (writing output (bytes_of new) text) read → Says Done (reorder input output options) before after
+reordered input output options index new trace text before read after holds is text_is same stands =
+    (writing output (bytes_of new) text, reorder_work input output options index new trace text before holds is text_is, stands ∙ ap (delivered (writing output (bytes_of new) text)) same)
+
+pub reorder_cut : (input output : Word) (options : Reordering) (index new : IndexParts) (trace : List KeptRound) (text : List ℕ) (before read after : Seen) → OfFile before input (λ file. Accepted file index)
+    → IsReordered options index new trace → text ≡ reorder_text index new trace → read ≡ before → IsCutOff (writing output (bytes_of new) text) read after → Says WriteFault (reorder input output options) before after
+reorder_cut input output options index new trace text before read after holds is text_is same cut =
+    (writing output (bytes_of new) text, reorder_work input output options index new trace text before holds is text_is, subst (λ host. IsCutOff (writing output (bytes_of new) text) host after) same cut)

@@ -25,11 +25,8 @@ cut_at_write law name bytes text before made after new cut =
 pub written_whole : CreatedThenAppended → (name bytes : List ℕ) (before made whole : Seen) → made ≡ created name before → whole ≡ grown name bytes made → whole ≡ with_file name bytes before
 written_whole law name bytes before made whole new all = all ∙ ap (grown name bytes) new ∙ law before name bytes
 
-pub cut_at_print : CreatedThenAppended → (name bytes text : List ℕ) (before made whole after : Seen) → made ≡ created name before → whole ≡ grown name bytes made → PrintedThenFailed text whole after
-    → IsCutOff (writing name bytes text) before after
-cut_at_print law name bytes text before made whole after new all cut =
-    not_printed (subst (λ host. PrintedThenFailed text host after) (written_whole law name bytes before made whole new all) cut)
+pub cut_at_print : (name bytes text : List ℕ) (before whole after : Seen) → whole ≡ with_file name bytes before → PrintedThenFailed text whole after → IsCutOff (writing name bytes text) before after
+cut_at_print name bytes text before whole after is cut = not_printed (subst (λ host. PrintedThenFailed text host after) is cut)
 
-pub stands_whole : CreatedThenAppended → (name bytes text : List ℕ) (before made whole after : Seen) → made ≡ created name before → whole ≡ grown name bytes made → after ≡ with_print text whole
-    → after ≡ delivered (writing name bytes text) before
-stands_whole law name bytes text before made whole after new all shown = shown ∙ ap (with_print text) (written_whole law name bytes before made whole new all)
+pub stands_whole : (name bytes text : List ℕ) (before whole after : Seen) → whole ≡ with_file name bytes before → after ≡ with_print text whole → after ≡ delivered (writing name bytes text) before
+stands_whole name bytes text before whole after is shown = shown ∙ ap (with_print text) is

@@ -1,19 +1,23 @@
 -- A command over files comes to one outcome, and to none other.
-use Rattle.std.proofs.Common.{◌≡◌, ◌⊎◌, ℕ, List, [], ◌∷◌, Option, Some, None, IsSomeAnd, IfSome, refl, sym, ap, ◌∙◌, inl, inr}
+use Rattle.std.proofs.Common.{◌≡◌, ◌⊎◌, ℕ, List, [], ◌∷◌, Option, Some, None, IsSomeAnd, IfSome, refl, sym, ap, subst, ◌∙◌, inl, inr}
 use Rattle.std.specs.FinMap.{get}
 use Rattle.ciff_wire.specs.Laws.{AreBytes}
-use Rattle.rgb_base.specs.Parts.{IndexParts}
+use Rattle.rgb_base.specs.Parts.{IndexParts, IsIndex}
 use Rattle.ciff_format.specs.Canonical.{bytes_of}
 use Rattle.ciff_format.specs.Accepted.{Accepted}
 use Rattle.ciff_format.specs.Refused.{Refused}
 use Rattle.ciff_format.specs.declared.cause.Cause.{Cause}
-use Rattle.ciff_format.specs.Laws.{FileIsOneIndex, RefusalIsOne, NeverBoth, EveryFileIsRead}
+use Rattle.ciff_format.specs.Laws.{FileIsOneIndex, AcceptedIsIndex, RefusalIsOne, NeverBoth, EveryFileIsRead}
 use Rattle.rgb_host.specs.Files.{Files}
 use Rattle.command_words.specs.Line.{Word}
-use Rattle.command_words.specs.Command.{Command, copy, report}
-use Rattle.rgb_app.specs.Text.{index_line, report_text}
+use Rattle.command_words.specs.Command.{Command, copy, report, reorder}
+use Rattle.command_words.specs.declared.reordering.Reordering.{Reordering}
+use Rattle.bisection.specs.declared.trace.KeptRound.{KeptRound}
+use Rattle.rgb_app.specs.Text.{index_line, report_text, reorder_text}
+use Rattle.rgb_app.specs.Reordering.{IsReordered}
+use Rattle.rgb_app.proofs.Reorderings.{AreOne, AreThere, one_reordering, some_reordering}
 use Rattle.rgb_app.specs.Outcome.{Input, index_file, inputs_of, Work, Outcome, done, malformed, missing, IsGood, Stops, FirstStops, writing, printing, IsWork, ComesTo}
-use Rattle.rgb_app.specs.Laws.{SomeOutcome}
+use Rattle.rgb_app.specs.Laws.{OneOutcome, SomeOutcome}
 
 -- ---- the file of an input
 
@@ -69,13 +73,19 @@ first_is_one law never files (input ∷ inputs) one other (inr p) (inr q) = firs
 
 -- ---- work
 
-work_is_one : FileIsOneIndex → (files : Files) (command : Command) (one other : Work) → IsWork files command one → IsWork files command other → one ≡ other
-work_is_one law files (copy input output) one other p q =
+work_is_one : FileIsOneIndex → AreOne → (files : Files) (command : Command) (one other : Work) → IsWork files command one → IsWork files command other → one ≡ other
+work_is_one law laws files (copy input output) one other p q =
     let same : p.0 ≡ q.0 = one_index law (get files input) p.0 q.0 p.1 q.1 in
     p.2 ∙ ap (λ index. writing output (bytes_of index) (index_line index)) same ∙ sym q.2
-work_is_one law files (report input workers) one other p q =
+work_is_one law laws files (report input workers) one other p q =
     let same : p.0 ≡ q.0 = one_index law (get files input) p.0 q.0 p.1 q.1 in
     p.2 ∙ ap (λ index. printing (report_text index)) same ∙ sym q.2
+work_is_one law laws files (reorder input output options) one other p q =
+    let same : p.0 ≡ q.0 = one_index law (get files input) p.0 q.0 p.3 q.3 in
+    let reordered : IsReordered options q.0 p.1 p.2 = subst (λ (index : IndexParts). IsReordered options index p.1 p.2) same p.4 in
+    let both = one_reordering laws options q.0 p.1 q.1 p.2 q.2 reordered q.4 in
+    let work : IndexParts → IndexParts → List KeptRound → Work = λ index new trace. writing output (bytes_of new) (reorder_text index new trace) in
+    p.5 ∙ ap (λ index. work index p.1 p.2) same ∙ ap (λ new. work q.0 new p.2) both.new ∙ ap (work q.0 q.1) both.trace ∙ sym q.5
 
 -- where there is work no input stops it
 work_goes_on : NeverBoth → (files : Files) (command : Command) (work : Work) (outcome : Outcome) → IsWork files command work → FirstStops files (inputs_of command) outcome → ⊥
@@ -83,17 +93,19 @@ work_goes_on law files (copy input output) work outcome p (inl s) = good_does_no
 work_goes_on law files (copy input output) work outcome p (inr s) = s.1
 work_goes_on law files (report input workers) work outcome p (inl s) = good_does_not_stop law files (index_file input) outcome (p.0, p.1) s
 work_goes_on law files (report input workers) work outcome p (inr s) = s.1
+work_goes_on law files (reorder input output options) work outcome p (inl s) = good_does_not_stop law files (index_file input) outcome (p.0, p.3) s
+work_goes_on law files (reorder input output options) work outcome p (inr s) = s.1
 
-pub one_outcome : FileIsOneIndex → RefusalIsOne → NeverBoth → (command : Command) (files : Files) (one other : Outcome) → ComesTo command files one → ComesTo command files other → one ≡ other
-one_outcome law refusal never command files (done a) (done b) p q = ap done (work_is_one law files command a b p q)
-one_outcome law refusal never command files (done a) (malformed b d) p q = absurd (work_goes_on never files command a (malformed b d) p q)
-one_outcome law refusal never command files (done a) missing p q = absurd (work_goes_on never files command a missing p q)
-one_outcome law refusal never command files (malformed a c) (done b) p q = absurd (work_goes_on never files command b (malformed a c) q p)
-one_outcome law refusal never command files (malformed a c) (malformed b d) p q = first_is_one refusal never files (inputs_of command) (malformed a c) (malformed b d) p q
-one_outcome law refusal never command files (malformed a c) missing p q = first_is_one refusal never files (inputs_of command) (malformed a c) missing p q
-one_outcome law refusal never command files missing (done b) p q = absurd (work_goes_on never files command b missing q p)
-one_outcome law refusal never command files missing (malformed b d) p q = first_is_one refusal never files (inputs_of command) missing (malformed b d) p q
-one_outcome law refusal never command files missing missing p q = refl
+pub one_outcome : FileIsOneIndex → RefusalIsOne → NeverBoth → AreOne → OneOutcome
+one_outcome law refusal never laws command files (done a) (done b) p q = ap done (work_is_one law laws files command a b p q)
+one_outcome law refusal never laws command files (done a) (malformed b d) p q = absurd (work_goes_on never files command a (malformed b d) p q)
+one_outcome law refusal never laws command files (done a) missing p q = absurd (work_goes_on never files command a missing p q)
+one_outcome law refusal never laws command files (malformed a c) (done b) p q = absurd (work_goes_on never files command b (malformed a c) q p)
+one_outcome law refusal never laws command files (malformed a c) (malformed b d) p q = first_is_one refusal never files (inputs_of command) (malformed a c) (malformed b d) p q
+one_outcome law refusal never laws command files (malformed a c) missing p q = first_is_one refusal never files (inputs_of command) (malformed a c) missing p q
+one_outcome law refusal never laws command files missing (done b) p q = absurd (work_goes_on never files command b missing q p)
+one_outcome law refusal never laws command files missing (malformed b d) p q = first_is_one refusal never files (inputs_of command) missing (malformed b d) p q
+one_outcome law refusal never laws command files missing missing p q = refl
 
 -- ---- there is one
 
@@ -121,6 +133,18 @@ some_report files input workers (good index holds) = (done (printing (report_tex
 some_report files input workers (bad place cause is) = (malformed place cause, inl is)
 some_report files input workers (gone is) = (missing, inl is)
 
-pub some_outcome : EveryFileIsRead → SomeOutcome
-some_outcome law (copy input output) files bytes = some_copy files input output (reading law (get files input) (bytes input))
-some_outcome law (report input workers) files bytes = some_report files input workers (reading law (get files input) (bytes input))
+found_is_index : AcceptedIsIndex → (found : Option (List ℕ)) (index : IndexParts) → IsFound found index → IsIndex index
+found_is_index law None index found = absurd found
+found_is_index law (Some file) index found = law file index found
+
+some_reorder : AcceptedIsIndex → AreThere → (files : Files) (input output : Word) (options : Reordering) → Reading (get files input) → (outcome : Outcome) × ComesTo (reorder input output options) files outcome
+some_reorder sound laws files input output options (good index holds) =
+    let made = some_reordering laws options index (found_is_index sound (get files input) index holds) in
+    (done (writing output (bytes_of made.new) (reorder_text index made.new made.trace)), (index, made.new, made.trace, holds, made.is_reordered, refl))
+some_reorder sound laws files input output options (bad place cause is) = (malformed place cause, inl is)
+some_reorder sound laws files input output options (gone is) = (missing, inl is)
+
+pub some_outcome : EveryFileIsRead → AcceptedIsIndex → AreThere → SomeOutcome
+some_outcome law sound laws (copy input output) files bytes = some_copy files input output (reading law (get files input) (bytes input))
+some_outcome law sound laws (report input workers) files bytes = some_report files input workers (reading law (get files input) (bytes input))
+some_outcome law sound laws (reorder input output options) files bytes = some_reorder sound laws files input output options (reading law (get files input) (bytes input))

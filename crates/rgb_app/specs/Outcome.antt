@@ -8,8 +8,10 @@ use Rattle.ciff_format.specs.Accepted.{Accepted}
 use Rattle.ciff_format.specs.Refused.{Refused}
 use Rattle.ciff_format.specs.declared.cause.Cause.{Cause}
 use Rattle.command_words.specs.Line.{Word}
-use Rattle.command_words.specs.Command.{Command, copy, report}
-use Rattle.rgb_app.specs.Text.{index_line, report_text}
+use Rattle.command_words.specs.Command.{Command, copy, report, reorder}
+use Rattle.bisection.specs.declared.trace.KeptRound.{KeptRound}
+use Rattle.rgb_app.specs.Text.{index_line, report_text, reorder_text}
+use Rattle.rgb_app.specs.Reordering.{IsReordered}
 
 -- ---- what a command reads
 
@@ -21,6 +23,7 @@ pub data Input : Type 0 where
 abbrev pub inputs_of : Command → List Input
 inputs_of (copy input output) = index_file input ∷ []
 inputs_of (report input workers) = index_file input ∷ []
+inputs_of (reorder input output options) = index_file input ∷ []
 
 -- the named file is there, and is accepted as this index
 abbrev pub Holds : Files → Word → IndexParts → Type 0
@@ -78,6 +81,10 @@ IsWork files (copy input output) work = (index : IndexParts) × Holds files inpu
     × (work ≡ writing output (bytes_of index) (index_line index))
 IsWork files (report input workers) work = (index : IndexParts) × Holds files input index
     × (work ≡ printing (report_text index))
+IsWork files (reorder input output options) work =
+    (index new : IndexParts) × (trace : List KeptRound) × Holds files input index
+    × IsReordered options index new trace
+    × (work ≡ writing output (bytes_of new) (reorder_text index new trace))
 
 -- over these files the command comes to this
 abbrev pub ComesTo : Command → Files → Outcome → Type 0

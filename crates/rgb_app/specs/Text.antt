@@ -1,6 +1,8 @@
 -- What is printed and warned, byte by byte. Each line ends with a line feed.
-use Rattle.std.specs.Prelude.{ℕ, List, [], ◌∷◌, ◌++◌, length, codes, decimal}
+use Rattle.std.specs.Prelude.{ℕ, List, [], ◌∷◌, ◌++◌, length, codes, decimal, flat_map}
+use Rattle.std.specs.Fmt.{signed_decimal}
 use Rattle.rgb_base.specs.Parts.{IndexParts, posting_count}
+use Rattle.bisection.specs.declared.trace.KeptRound.{KeptRound}
 use Rattle.ciff_format.specs.declared.cause.Cause.{Cause}
 use Rattle.ciff_format.specs.declared.cause.Cause.TheVariants.{CutShort, BadLength, BadField, BadText, BadCount, BadGap, SameTerm, BadDoc, Trailing, TooMuch}
 use Rattle.gap_report.specs.declared.costs.Costs.{Costs}
@@ -30,6 +32,28 @@ cost_words costs =
 -- the index line, and the line of the costs
 abbrev pub report_text : IndexParts → List ℕ
 report_text index = index_line index ++ line_of (cost_words (costs_of index))
+
+-- a kept round: the level of its cell, the cell's first place and its size, how many pairs changed
+-- places, and what the cell's halves cost before and after
+abbrev pub round_words : KeptRound → List ℕ
+round_words round =
+    codes "round " ++ decimal round.level ++ codes " " ++ decimal round.start ++ codes " "
+    ++ decimal round.size ++ codes " " ++ decimal round.pairs ++ codes " "
+    ++ signed_decimal round.before ++ codes " " ++ signed_decimal round.after
+
+-- a line for each kept round
+abbrev pub round_lines : List KeptRound → List ℕ
+round_lines rounds = flat_map (λ round. line_of (round_words round)) rounds
+
+-- the costs before a reordering and after it
+abbrev pub cost_lines : Costs → Costs → List ℕ
+cost_lines before after =
+    line_of (codes "before " ++ cost_words before) ++ line_of (codes "after " ++ cost_words after)
+
+-- the index line, the kept rounds, and the costs of the index and of the new one
+abbrev pub reorder_text : IndexParts → IndexParts → List KeptRound → List ℕ
+reorder_text index new rounds =
+    index_line index ++ (round_lines rounds ++ cost_lines (costs_of index) (costs_of new))
 
 -- ---- what is warned
 

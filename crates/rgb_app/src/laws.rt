@@ -1,7 +1,10 @@
 //! Laws of what commands come to. Each call does nothing.
 ghost use Rattle.rgb_app.specs.Laws.{OneOutcome, SomeOutcome};
 
+use bisection::laws::{bisection_is_one, each_document_once, numbering_of_is_there};
 use ciff_format::laws::{every_file_is_read, file_is_one_index, never_both, refusal_is_one};
+use forward_index::laws::{forward_is_one, start_by_name_is_one};
+use postings_rewrite::laws::renumbering_is_one;
 
 /// A command over files of bytes comes to exactly one outcome.
 pub fn exactly_one_outcome()
@@ -12,4 +15,10 @@ pub fn exactly_one_outcome()
     refusal_is_one();
     never_both();
     every_file_is_read();
+    forward_is_one();
+    start_by_name_is_one();
+    bisection_is_one();
+    each_document_once();
+    numbering_of_is_there();
+    renumbering_is_one();
 }

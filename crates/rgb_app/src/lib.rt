@@ -2,6 +2,8 @@
 #![tactic(auto)]
 
 pub mod laws;
+mod printing;
+mod reordering;
 mod run;
 mod status;
 mod text;

@@ -1,17 +1,23 @@
 //! The top call: a command's work in its order.
-ghost use Rattle.std.specs.Prelude.{◌≡◌, ◌<◌, ◌≤◌, ◌↔◌, IfOk, OnOk, OnErr, MatchResult, Err};
+ghost use Rattle.std.specs.Prelude.{◌≡◌, ℕ, ◌<◌, ◌≤◌, ◌↔◌, List, IfOk, OnOk, OnErr, MatchResult, Err};
 ghost use Rattle.ciff_format.specs.Canonical.{bytes_of};
-ghost use Rattle.command_words.specs.Command.{copy, report, texts_of};
+ghost use Rattle.rgb_host.specs.Seen.{with_file};
+ghost use Rattle.bisection.specs.Progress.{AreOptions};
+ghost use Rattle.command_words.specs.Command.{copy, report, reorder, texts_of};
+ghost use Rattle.rgb_app.specs.Reordering.{options_of};
+ghost use Rattle.rgb_app.specs.Prepared.{text_of};
 ghost use Rattle.rgb_app.specs.Outcome.{writing, printing};
 ghost use Rattle.rgb_app.specs.Status.{code_of, warning_of};
 ghost use Rattle.rgb_app.specs.Ends.{delivered, IsCutOff, Says, SpellsNone, SpellsOne, Runs, Warned, Ends, IsExact};
 
 use crate::laws::exactly_one_outcome;
+use crate::printing::print_rounds;
+use crate::reordering::{Reordered, prepare};
 use crate::status::Status;
 use crate::text::{index_line, report_text};
 use ciff_reader::read_index;
 use ciff_writer::{WriteError, write_index};
-use command_words::{Command, command_of};
+use command_words::{Command, Reordering, command_of};
 use gap_report::Costs;
 use rgb_base::Index;
 use rgb_host::laws::created_then_appended;
@@ -21,6 +27,19 @@ use std::io;
 use std::io::ErrorKind;
 use std::thread::Threads;
 
+/// Creates the file and writes the index to it. It takes no memory.
+fn store<H: Host>(host: &mut H, name: &str, index: &Index) -> Result<(), WriteError>
+    ensures ok { OnOk result (H.seen host.new
+        ≡ with_file name.now (bytes_of index.now) (H.seen host.old)) }
+    ensures fault { OnErr result ((text : List ℕ)
+        → IsCutOff (writing name.now (bytes_of index.now) text) (H.seen host.old) (H.seen host.new)) }
+{
+    created_then_appended();
+    host.create(name)?;
+    write_index(index, host, name)?;
+    Ok(())
+}
+
 /// Creates the file, writes the index to it and prints the text. It takes no memory.
 fn deliver<H: Host>(host: &mut H, name: &str, index: &Index, text: &str) -> Result<(), WriteError>
     ensures ok { OnOk result (H.seen host.new
@@ -28,10 +47,22 @@ fn deliver<H: Host>(host: &mut H, name: &str, index: &Index, text: &str) -> Resu
     ensures fault { OnErr result (IsCutOff (writing name.now (bytes_of index.now) text.now)
         (H.seen host.old) (H.seen host.new)) }
 {
-    created_then_appended();
-    host.create(name)?;
-    write_index(index, host, name)?;
+    store(host, name, index)?;
     print_all(host, text.as_bytes())?;
+    Ok(())
+}
+
+/// Creates the file, writes the new index to it and prints the text. It takes no memory.
+fn deliver_reordered<H: Host>(host: &mut H, name: &str, work: &Reordered) -> Result<(), WriteError>
+    ensures ok { OnOk result (H.seen host.new
+        ≡ delivered (writing name.now (bytes_of work.now.new) (text_of work.now))
+        (H.seen host.old)) }
+    ensures fault { OnErr result (IsCutOff
+        (writing name.now (bytes_of work.now.new) (text_of work.now))
+        (H.seen host.old) (H.seen host.new)) }
+{
+    store(host, name, &work.new)?;
+    print_rounds(host, &work.first, work.rounds.as_slice(), &work.last)?;
     Ok(())
 }
 
@@ -77,6 +108,29 @@ fn report<R: Threads + Sync, H: Host>(
     Ok(())
 }
 
+/// Renumbers the documents of a file's index and writes it to another, and prints what it kept of
+/// the work and what the gaps cost before and after.
+fn reorder<R: Threads + Sync, H: Host>(
+    rt: &R,
+    alloc: Global,
+    host: &mut H,
+    input: &str,
+    output: &str,
+    options: Reordering,
+) -> Result<(), Status>
+    requires options { AreOptions (options_of options) }
+    ensures says { MatchResult result
+        (λ _. Says Status.Done (reorder input.now output.now options)
+        (H.seen host.old) (H.seen host.new))
+        (λ status. Says status (reorder input.now output.now options)
+        (H.seen host.old) (H.seen host.new)) }
+{
+    let index = read_index(alloc, host, input)?;
+    let work = prepare(rt, alloc, &index, options)?;
+    deliver_reordered(host, output, &work)?;
+    Ok(())
+}
+
 /// Warns the line of a status, as far as the host takes it, and answers the status's number.
 fn end<H: Host>(host: &mut H, status: Status) -> u8
     ensures code { result ≡ code_of status }
@@ -99,6 +153,11 @@ fn work<R: Threads + Sync, H: Host>(rt: &R, alloc: Global, words: &[String], hos
     let done = match command {
         Command::Copy { input, output } => copy(alloc, host, input, output),
         Command::Report { input, workers } => report(rt, alloc, host, input, workers),
+        Command::Reorder {
+            input,
+            output,
+            options,
+        } => reorder(rt, alloc, host, input, output, options),
     };
     match done {
         Ok(()) => Status::Done,

@@ -2,7 +2,7 @@
 ghost use Rattle.std.specs.Prelude.{◌≡◌, length, Some, IfOk, string_bytes};
 ghost use Rattle.rgb_base.specs.Parts.{posting_count};
 ghost use Rattle.gap_report.specs.Costs.{costs_of};
-ghost use Rattle.rgb_app.specs.Text.{index_words, index_line, cost_words, report_text};
+ghost use Rattle.rgb_app.specs.Text.{index_words, index_line, cost_words, cost_lines, report_text};
 
 use gap_report::Costs;
 use rgb_base::{Index, OutOfMemory};
@@ -57,7 +57,7 @@ fn words_of(index: &Index) -> IndexWords
     }
 }
 
-/// The text of `copy`: the index line.
+/// The index line, which is the text of `copy` and the first line of the others.
 pub(crate) fn index_line(alloc: Global, index: &Index) -> Result<String, OutOfMemory>
     ensures line { IfOk result (λ text. string_bytes text ≡ index_line index.now) }
 {
@@ -73,4 +73,13 @@ pub(crate) fn report_text(alloc: Global, index: &Index, costs: Costs) -> Result<
     let line = words_of(index);
     let costs = CostWords { costs };
     Ok(format!(in alloc; "{line}\n{costs}\n")?)
+}
+
+/// The last lines of `reorder`: the costs before and after.
+pub(crate) fn cost_lines(alloc: Global, before: Costs, after: Costs) -> Result<String, OutOfMemory>
+    ensures lines { IfOk result (λ text. string_bytes text ≡ cost_lines before after) }
+{
+    let before = CostWords { costs: before };
+    let after = CostWords { costs: after };
+    Ok(format!(in alloc; "before {before}\nafter {after}\n")?)
 }
