@@ -22,6 +22,7 @@ printf '\10\30\1\20\1\10\1\170\5\15\42\4\20\2\10\0\30\2\20\1\12\1\141\7\30\2\22\
 printf '\2\30\2\0\2\10\1' >two.ciff
 printf '\4\10\1\20\2\3\12\1\141\3\12\1\141' >same_term.ciff
 { cat one.ciff; printf '\0'; } >longer.ciff
+printf '\0' >nothing.ciff
 line='documents 1 lists 1 postings 1'
 
 # A list over 9000 documents in a row, 169,776 bytes, whose gaps are all 1.
@@ -101,6 +102,33 @@ for workers in 1 2 3 64; do
         report "$birds" --workers "$workers"
 done
 
+# What another program of the same rules writes and prints for birds.ciff.
+# reordered SUM TEXT [WORD..]: the sums of OUT and of the printed text.
+reordered() {
+    local sum=$1 text=$2
+    shift 2
+    "$program" reorder "$birds" out.ciff "$@" >printed 2>warned
+    tell "$? $(cat warned)" '0 ' "status of: reorder $*"
+    tell "$(cksum <out.ciff)" "$sum" "written by: reorder $*"
+    tell "$(cksum <printed)" "$text" "printed by: reorder $*"
+}
+for workers in 1 2 3 64; do
+    for step in 1 4 31; do
+        reordered '1350987909 120380' '2076827277 17760' --workers "$workers" --step "$step"
+    done
+done
+reordered '2320709494 120643' '1639938294 569' --depth 1
+reordered '3348425332 120419' '3468547473 16587' --min-df 4 --workers 2
+reordered '1633033346 120379' '4051085238 12249' --leaf 1 --depth 5 --workers 3
+# By name is as by number, of the file that stands in the order of the names.
+"$program" reorder "$birds" named.ciff --start name --depth 0 >printed
+"$program" reorder named.ciff by_number.ciff --workers 2 >printed_by_number
+"$program" reorder "$birds" by_name.ciff --start name >printed_by_name
+tell "$(same by_number.ciff by_name.ciff)" same 'birds.ciff reordered from the order of its names'
+tell "$(grep -c ^round printed_by_name)" "$(grep -c ^round printed_by_number)" 'its rounds'
+row 0 $'documents 0 lists 0 postings 0\nbefore gamma 0 delta 0 bytes 0\nafter gamma 0 delta 0 bytes 0' '' \
+    reorder nothing.ciff out.ciff --workers 64
+
 row 2 '' usage
 row 2 '' usage Copy one.ciff no.ciff
 row 2 '' usage copy one.ciff
@@ -111,6 +139,9 @@ row 2 '' usage copy one.ciff $'no\377.ciff'
 row 2 '' usage report one.ciff --workers 0
 row 2 '' usage report one.ciff --workers 65
 row 2 '' usage report one.ciff --workers
+row 2 '' usage reorder one.ciff no.ciff --depth 32
+row 2 '' usage reorder one.ciff no.ciff --start doc
+row 2 '' usage reorder one.ciff no.ciff --depth=3
 row 3 '' 'malformed 0 CutShort' copy /dev/null no.ciff
 row 3 '' 'malformed 25 Trailing' copy longer.ciff no.ciff
 row 3 '' 'malformed 9 SameTerm' copy same_term.ciff no.ciff
@@ -122,6 +153,7 @@ for size in 100000 169775; do
 done
 row 4 '' 'read fault' copy missing.ciff no.ciff
 row 4 '' 'read fault' report missing.ciff
+row 4 '' 'read fault' reorder missing.ciff no.ciff
 row 4 '' 'read fault' copy . no.ciff
 row 4 '' 'read fault' report .
 tell "$([ -e no.ciff ] && echo there || echo none)" none 'no.ciff'
@@ -130,9 +162,12 @@ row 5 '' 'write fault' copy one.ciff missing/no.ciff
 row 5 '' 'write fault' copy one.ciff .
 row 5 '' 'write fault' copy one.ciff /dev/full
 row 5 '' 'write fault' copy many.ciff /dev/full
+row 5 '' 'write fault' reorder "$birds" /dev/full
 out=/dev/full
 row 5 '' 'write fault' copy one.ciff whole.ciff
 tell "$(bytes whole.ciff)" "$one" 'whole.ciff'
+row 5 '' 'write fault' reorder one.ciff whole.ciff
+tell "$(bytes whole.ciff)" "$one" 'whole.ciff reordered'
 row 5 '' 'write fault' report one.ciff
 
 echo "program: $passed passed, $failed failed"

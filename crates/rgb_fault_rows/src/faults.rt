@@ -1,6 +1,6 @@
 //! Rows in which one call of the host fails, for each call in turn until none is left to fail.
 use rgb_host::MemoryHost;
-use rgb_runs::{SIX, Setting, bytes_of, has_told, run};
+use rgb_runs::{SIX, SIX_REORDERED, Setting, bytes_of, has_told, run};
 use std::test::Fail;
 use std::thread::Threads;
 
@@ -133,5 +133,19 @@ fn each_call_of_report(rt: HostRuntime) -> Result<(), Fail> {
         failing_calls(&rt, command, &six, Calls::Writes, 1)?,
         Some(57)
     );
+    Ok(())
+}
+
+#[test]
+fn each_call_of_reorder(rt: HostRuntime) -> Result<(), Fail> {
+    let six = bytes_of(rt.alloc(), SIX)?;
+    let reordered = bytes_of(rt.alloc(), SIX_REORDERED)?;
+    let command = Command {
+        words: "reorder in out --depth 1 --leaf 1",
+        written: &reordered,
+        printed: "documents 6 lists 2 postings 6\nround 0 0 6 1 76672 -163200\n\
+            before gamma 12 delta 15 bytes 6\nafter gamma 10 delta 10 bytes 6\n",
+    };
+    assert!(rt; each_can_fail(&rt, command, &six)?);
     Ok(())
 }
