@@ -70,6 +70,31 @@ const OF_MORE: [Build<'static>; 3] = [
     },
 ];
 
+/// Halves of the documents each, and documents of no list behind them.
+const OF_OTHERS: [Build<'static>; 3] = [
+    Build {
+        lists: "02 13",
+        names: "d0 d1 d2 d3",
+        start: "0123",
+        min_df: 1,
+        told: "2 0:0 1:1 2:0 3:1",
+    },
+    Build {
+        lists: "013 24",
+        names: "d0 d1 d2 d3 d4",
+        start: "01234",
+        min_df: 3,
+        told: "2 0:0 1:0 2 3:0 4",
+    },
+    Build {
+        lists: "013 245",
+        names: "a b c d e f g h i j k l",
+        start: "0123456789:;",
+        min_df: 1,
+        told: "2 0:0 1:0 2:1 3:0 4:1 5:1 6 7 8 9 10 11",
+    },
+];
+
 /// Whether the forward index over a start order, made by so many threads, is this text.
 fn is_told<R: Threads + Sync>(
     rt: &R,
@@ -120,6 +145,12 @@ fn a_row_has_the_lists_of_its_document(rt: HostRuntime) -> Result<(), Fail> {
 #[test]
 fn a_place_has_the_document_of_the_start_order(rt: HostRuntime) -> Result<(), Fail> {
     assert!(rt; are_met(&rt, rt.alloc(), &OF_MORE)?);
+    Ok(())
+}
+
+#[test]
+fn few_and_no_lists(rt: HostRuntime) -> Result<(), Fail> {
+    assert!(rt; are_met(&rt, rt.alloc(), &OF_OTHERS)?);
     Ok(())
 }
 
