@@ -2,8 +2,10 @@ pub mod Built
 pub mod Cuts
 pub mod Entered
 pub mod Exclude
+pub mod Grown
 pub mod Lists
 pub mod Moved
+pub mod Refilled
 pub mod Orders
 pub mod Places
 pub mod Rising

@@ -36,6 +36,11 @@ abbrev pub with_posting : Building → Posting → Building
 with_posting building posting =
     record building { postings = building.postings ++ posting ∷ [] }
 
+-- more postings in the open list
+abbrev pub with_postings : Building → List Posting → Building
+with_postings building postings =
+    record building { postings = building.postings ++ postings }
+
 -- the list that the open postings make with this term
 abbrev pub closed : Building → List ℕ → ℤ → ℤ → TermList
 closed building term df cf = record {
@@ -102,6 +107,17 @@ abbrev pub IsFullOfPostings : Building → Type 0
 IsFullOfPostings building =
     2 ^ 32 ≤ posting_count building.lists + (length building.postings + 1)
 
+-- the postings lie above those of the open list, each above the one before it, and below the number
+-- of documents
+abbrev pub AreNextPostings : Building → List Posting → Type 0
+AreNextPostings building postings =
+    IsPostings building.documents (building.postings ++ postings)
+
+-- with so many postings more there would be too many
+abbrev pub IsFullFor : Building → ℕ → Type 0
+IsFullFor building count =
+    2 ^ 32 ≤ posting_count building.lists + (length building.postings + count)
+
 -- with this text there would be too many bytes of text
 abbrev pub IsFullOfText : Building → List ℕ → Type 0
 IsFullOfText building text = 2 ^ 40 < text_size (parts_of building) + length text
@@ -121,6 +137,14 @@ IsPostingFault building posting Size =
 IsPostingFault building posting OutOfMemory =
     IsNextDocument building posting.doc × ¬ IsFullOfPostings building
 IsPostingFault building posting cause = ⊥
+
+abbrev pub ArePostingsFault : Building → List Posting → BuildError → Type 0
+ArePostingsFault building postings Order = ¬ AreNextPostings building postings
+ArePostingsFault building postings Size =
+    AreNextPostings building postings × IsFullFor building (length postings)
+ArePostingsFault building postings OutOfMemory =
+    AreNextPostings building postings × ¬ IsFullFor building (length postings)
+ArePostingsFault building postings cause = ⊥
 
 abbrev pub IsListFault : Building → List ℕ → BuildError → Type 0
 IsListFault building term Counts = 2 ^ 31 ≤ length building.lists + 1

@@ -1,5 +1,5 @@
 -- The postings of all lists as one table, in which the lists' parts stand one behind another.
-use Rattle.std.specs.Prelude.{◌≡◌, ℕ, ◌+◌, ◌<◌, List, [], ◌∷◌, length, take, drop, flat_map, slice_index}
+use Rattle.std.specs.Prelude.{◌≡◌, ℕ, ◌+◌, ◌-◌, ◌<◌, ◌≤◌, List, [], ◌∷◌, length, take, drop, flat_map, slice_index}
 use Rattle.rgb_base.specs.declared.parts.Posting.{Posting}
 use Rattle.rgb_base.specs.declared.parts.TermList.{TermList}
 use Rattle.rgb_base.specs.declared.parts.DocRecord.{DocRecord}
@@ -31,3 +31,19 @@ with_table index table order = record index {
   lists = cut_anew index.lists table;
   documents = taken_at order index.documents;
 }
+
+-- ends of parts, the first of which begins at this place: they don't fall, and the last part ends
+-- where a table of this length does
+abbrev pub AreSplits : ℕ → List ℕ → ℕ → Type 0
+AreSplits from [] size = from ≡ size
+AreSplits from (end ∷ ends) size = (from ≤ end) × AreSplits end ends size
+
+-- the same lists with the parts of this table that end there
+unfoldable pub cut_at : ℕ → List ℕ → List TermList → List Posting → List TermList
+cut_at from (end ∷ ends) (list ∷ lists) table =
+    record list { postings = take (end - from) (drop from table) } ∷ cut_at end ends lists table
+cut_at from ends lists table = []
+
+-- the index with the parts of this table as its postings
+abbrev pub with_postings : IndexParts → List Posting → List ℕ → IndexParts
+with_postings index table ends = record index { lists = cut_at 0 ends index.lists table }

@@ -1,9 +1,10 @@
 //! An index that is built piece by piece, each piece looked at once.
-ghost use Rattle.std.specs.Prelude.{◌≡◌, ℕ, ◌↔◌, ◌+◌, ◌<◌, ◌^◌, length, All, Contains, IsTrue, IfOk, IfErr, OnOk, OnErr};
+ghost use Rattle.std.specs.Prelude.{◌≡◌, ℕ, ◌↔◌, ◌+◌, ◌<◌, ◌^◌, length, All, Contains, FitsSigned, IsTrue, IfOk, IfErr, OnOk, OnErr};
+ghost use Rattle.std.specs.Int.{w32};
 ghost use Rattle.rgb_base.specs.Marks.{mark_of};
 ghost use Rattle.rgb_base.specs.Appended.{IsEnterFault, AreAppended, AreSame};
-ghost use Rattle.rgb_base.specs.Parts.{text_size, IsIndex};
-ghost use Rattle.rgb_base.specs.Building.{IsBuilding, IsWhole, HasTerm, IsFullOfText, begun, with_posting, with_list, with_record, parts_of, IsBeginningFault, IsPostingFault, IsListFault, IsRecordFault};
+ghost use Rattle.rgb_base.specs.Parts.{text_size, IsPostings, IsIndex};
+ghost use Rattle.rgb_base.specs.Building.{IsBuilding, IsWhole, HasTerm, IsFullOfText, begun, with_posting, with_postings, with_list, with_record, parts_of, IsBeginningFault, IsPostingFault, ArePostingsFault, IsListFault, IsRecordFault};
 
 use crate::checks::{COUNT_LIMIT, TEXT_LIMIT, header_fits};
 use crate::columns::{Counts, PostingTable, TextTable};
@@ -128,6 +129,28 @@ impl IndexBuilder {
         }
         self.postings.push(posting)?;
         self.least = posting.doc + 1;
+        Ok(())
+    }
+
+    /// Puts postings that rise behind those of the open list, all of them or none.
+    pub fn push_postings(&mut self, postings: &[Posting]) -> Result<(), BuildError>
+        requires rising { IsPostings self.old.documents postings.now }
+        requires fit { All (λ posting. FitsSigned w32 posting.tf) postings.now }
+        ensures ok { OnOk result (self.new ≡ with_postings self.old postings.now) }
+        ensures fault { IfErr result (ArePostingsFault self.old postings.now) }
+        ensures same { OnErr result (self.new ≡ self.old) }
+    {
+        let [first, ..] = postings else {
+            return Ok(());
+        };
+        if first.doc < self.least {
+            return Err(BuildError::Order);
+        }
+        if ((u32::MAX - self.postings.len()) as usize) < postings.len() {
+            return Err(BuildError::Size);
+        }
+        self.postings.extend(postings)?;
+        self.least = postings[postings.len() - 1].doc + 1;
         Ok(())
     }
 

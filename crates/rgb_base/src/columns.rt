@@ -135,7 +135,8 @@ impl Model for PostingTable {
 }
 
 impl PostingTable {
-    ghost use Rattle.rgb_base.specs.Flat.{cut_like, AreRunningTotals};
+    ghost use Rattle.rgb_base.specs.Flat.{pieces, cut_like, AreRunningTotals};
+    ghost use Rattle.rgb_base.specs.Table.{AreSplits};
 
     /// No lists and no postings.
     pub fn new(alloc: Global) -> PostingTable
@@ -160,6 +161,16 @@ impl PostingTable {
         let table = Vec::with_capacity(alloc, postings)?;
         let ends = Vec::with_capacity(alloc, lists)?;
         Ok(PostingTable { table, ends })
+    }
+
+    /// The parts of a table that end at these places.
+    pub fn of(table: Vec<Posting>, ends: Vec<u32>) -> PostingTable
+        requires splits { AreSplits 0 ends.items (length table.items) }
+        requires small { length table.items < 2 ^ 32 }
+        ensures closed { result.closed ≡ pieces 0 ends.items table.items }
+        ensures pending { result.pending ≡ [] }
+    {
+        PostingTable { table, ends }
     }
 
     /// How many postings there are.
@@ -204,6 +215,18 @@ impl PostingTable {
         ensures same { OnErr result (self.new ≡ self.old) }
     {
         self.table.push(posting)?;
+        Ok(())
+    }
+
+    /// Puts postings behind those of the open list.
+    pub fn extend(&mut self, postings: &[Posting]) -> Result<(), AllocError>
+        requires { sum_by (λ part. length part) self.old.closed
+            + (length self.old.pending + length postings.now) < 2 ^ 32 }
+        ensures closed { self.new.closed ≡ self.old.closed }
+        ensures ok { OnOk result (self.new.pending ≡ self.old.pending ++ postings.now) }
+        ensures same { OnErr result (self.new ≡ self.old) }
+    {
+        self.table.extend_from_slice(postings)?;
         Ok(())
     }
 

@@ -2,7 +2,7 @@
 ghost use Rattle.std.specs.Prelude.{◌≡◌, ◌<◌, ◌^◌, All, FitsSigned, [], length, map, take, slice_get, slice_index_or, pos, Some, option_map, IfOk, IfErr, OnErr};
 ghost use Rattle.std.specs.Int.{w32};
 ghost use Rattle.rgb_base.specs.Parts.{IndexParts, IsIndex, posting_count};
-ghost use Rattle.rgb_base.specs.Table.{all_postings, cut_anew, with_table, AreEnds};
+ghost use Rattle.rgb_base.specs.Table.{all_postings, cut_anew, with_table, AreEnds, AreSplits, with_postings};
 ghost use Rattle.rgb_base.specs.Flat.{lists_of, records_of};
 ghost use Rattle.rgb_base.specs.Kept.{AreListColumns};
 
@@ -232,6 +232,29 @@ impl Index {
             names,
             sizes,
         })
+    }
+
+    /// The index with other postings: those of each list are the part of this table that ends at its
+    /// place of `ends` and begins where the one before ends. Header, terms, `df`, `cf` and records
+    /// stay. It takes no memory.
+    pub fn with_postings(self, table: Vec<Posting>, ends: Vec<u32>) -> Index
+        requires len { length ends.items ≡ length self.lists }
+        requires splits { AreSplits 0 ends.items (length table.items) }
+        requires few { length table.items < 2 ^ 32 }
+        requires rising { AreOrdered
+            (length self.documents) (with_postings self table.items ends.items).lists }
+        ensures same { result ≡ with_postings self table.items ends.items }
+        ensures sound { IsIndex result }
+    {
+        values_fit(&table);
+        Index {
+            header: self.header,
+            terms: self.terms,
+            counts: self.counts,
+            postings: PostingTable::of(table, ends),
+            names: self.names,
+            sizes: self.sizes,
+        }
     }
 }
 
