@@ -1,4 +1,5 @@
 pub mod Exponent
+pub mod Growths
 pub mod LogLaws
 pub mod PowerLaw
 pub mod Rows

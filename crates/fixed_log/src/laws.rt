@@ -1,5 +1,6 @@
 //! Laws of the logarithm, for the proofs of the crates above. Each call does nothing.
 ghost use Rattle.fixed_log.specs.Log.{ExponentIsGreatest, LogIsLog, LogNeverFalls, LogOfPower, LogIsSmall};
+ghost use Rattle.fixed_log.specs.Growth.{GrowthIsSmall};
 
 /// The logarithm is bounded by powers from both sides.
 pub fn log_is_log()
@@ -20,4 +21,9 @@ pub fn log_of_power()
 /// The logarithm is below 2^22.
 pub fn log_is_small()
     ensures small { LogIsSmall }
+{}
+
+/// The growth at a count lies between -2^53 and 2^53.
+pub fn growth_is_small()
+    ensures small { GrowthIsSmall }
 {}

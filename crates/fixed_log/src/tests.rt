@@ -25,6 +25,10 @@ fn table_of_seven(rt: HostRuntime) -> Result<(), Fail> {
     assert_eq!(rt; table.top(), 7);
     assert_eq!(rt; table.lg(1), 0);
     assert_eq!(rt; table.lg(7), 183982);
+    assert_eq!(rt; table.growth(0), 0);
+    assert_eq!(rt; table.growth(1), 65536);
+    assert_eq!(rt; table.growth(2), 142208);
+    assert_eq!(rt; table.growth(7), 272364);
     Ok(())
 }
 
