@@ -1,3 +1,5 @@
+pub mod Banded
+pub mod Begun
 pub mod Blocks
 pub mod Built
 pub mod Cells
@@ -6,6 +8,7 @@ pub mod Marks
 pub mod Meaning
 pub mod Names
 pub mod Numbered
+pub mod Passing
 pub mod One
 pub mod Pieces
 pub mod Rows
@@ -14,3 +17,4 @@ pub mod Steps
 pub mod Sums
 pub mod Twice
 pub mod StartOne
+pub mod StartThere

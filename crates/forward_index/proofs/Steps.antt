@@ -4,7 +4,7 @@ use Rattle.std.specs.Prelude.{slice_get}
 use Rattle.std.proofs.lemmas.Option.{get_or_from_slice_get}
 use Rattle.std.proofs.lemmas.Bool.{cases_eq, cases_lt, eq-eqb, ne_eqb, cond-true, cond-false}
 use Rattle.std.proofs.lemmas.List.{get_or-set_same, get_or-set_other}
-use Rattle.std.proofs.lemmas.List.Sums.{sum_by_more, sum_by-take-le}
+use Rattle.std.proofs.lemmas.List.Sums.{sum_by_more}
 use Rattle.rgb_base.specs.declared.parts.Posting.{Posting}
 use Rattle.rgb_base.specs.Order.{new_of}
 use Rattle.forward_index.specs.Rows.{times, IsStart, AreMoved, AreWritten}
@@ -65,19 +65,26 @@ module _ (start : List ℕ) (first : ℕ) (postings : List Posting) (j place at 
       omega (arith, none, next k lt, moved k lt)
 
   -- there is room for one more
-  pub room_within : at < length now → get_or now at 0 + 1 ≤ get_or old at 0 + times (get_or start (first + at) 0) postings
-  room_within inside =
+  pub taken_within : at < length now → get_or now at 0 + 1 ≡ get_or old at 0 + times (get_or start (first + at) 0) (take (j + 1) postings)
+  taken_within inside =
       let lt : at < length old = omega (arith, inside, same) in
       let one = cond-true {A = ℕ} (eqb at at) 1 0 (eq-eqb at at refl) in
-      omega (arith, one, next at lt, moved at lt, sum_by-take-le (λ (posting : Posting). cond (posting.doc == get_or start (first + at) 0) 1 0) postings (j + 1))
+      omega (arith, one, next at lt, moved at lt)
+
+  pub count_room : (stop limit : ℕ) → ((k n : ℕ) → k < length old → All (λ posting. posting.doc < stop) (take n postings) → get_or old k 0 + times (get_or start (first + k) 0) (take n postings) < limit) → All (λ posting. posting.doc < stop) (take (j + 1) postings) → at < length now
+      → get_or now at 0 + 1 < limit
+  count_room stop limit few low inside =
+      let fits = few at (j + 1) (omega (arith, inside, same)) low in
+      omega (arith, taken_within inside, fits)
 
   -- the cursor stands behind the base, with room for one entry
-  pub cursor_room : (base limit : ℕ) → All (λ cursor. base ≤ cursor) old → ((k : ℕ) → k < length old → get_or old k 0 + times (get_or start (first + k) 0) postings ≤ limit) → at < length now
+  pub cursor_room : (base stop limit : ℕ) → All (λ cursor. base ≤ cursor) old → ((k n : ℕ) → k < length old → All (λ posting. posting.doc < stop) (take n postings) → get_or old k 0 + times (get_or start (first + k) 0) (take n postings) ≤ limit) → All (λ posting. posting.doc < stop) (take (j + 1) postings) → at < length now
       → (base ≤ get_or now at 0) × (get_or now at 0 + 1 ≤ limit)
-  cursor_room base limit low high inside =
+  cursor_room base stop limit low high taken inside =
       let lt : at < length old = omega (arith, inside, same) in
       let above : base ≤ get_or old at 0 = low at 0 lt in
-      (omega (arith, above, moved at lt), omega (arith, room_within inside, high at lt))
+      let fits = high at (j + 1) lt taken in
+      (omega (arith, above, moved at lt), omega (arith, taken_within inside, fits))
 
 -- the term is written at one cursor, which moves on
 module _ (base term at pos : ℕ) (old now was entries : List ℕ) (same : length now ≡ length old) (inside : at < length now) (here : base + pos ≡ get_or now at 0) (free : pos < length entries) (grown : (k : ℕ) → k < length old → get_or old k 0 ≤ get_or now k 0) (written : AreWritten base term old now was entries) where

@@ -25,6 +25,9 @@ one_yes x y e = cond-true {A = ℕ} (eqb x y) 1 0 (eq-eqb x y e)
 one_no : (x y : ℕ) → (x ≡ y → ⊥) → one_if (eqb x y) ≡ 0
 one_no x y ne = cond-false {A = ℕ} (eqb x y) 1 0 (ne_eqb x y ne)
 
+pub AllPairs-head : {X : Type 0} (R : X → X → Type 0) (x : X) (xs : List X) → AllPairs R (x ∷ xs) → All (R x) xs
+AllPairs-head R x xs all k d lt = all 0 (suc k) d (omega arith) (omega (arith, lt))
+
 pub AllPairs-tail : {X : Type 0} (R : X → X → Type 0) (x : X) (xs : List X) → AllPairs R (x ∷ xs) → AllPairs R xs
 AllPairs-tail R x xs all i j d less within = all (suc i) (suc j) d (omega (arith, less)) (omega (arith, within))
 

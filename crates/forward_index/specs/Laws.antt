@@ -1,6 +1,7 @@
 -- What holds of forward indexes, each the contract of a call of its own.
-use Rattle.std.specs.Prelude.{◌≡◌, ℕ, ◌<◌, List, length, map, slice_index, All}
-use Rattle.rgb_base.specs.Parts.{IndexParts}
+use Rattle.std.specs.Prelude.{◌≡◌, ℕ, ◌^◌, ◌<◌, List, length, map, slice_index, All}
+use Rattle.rgb_base.specs.Parts.{IndexParts, IsIndex}
+use Rattle.rgb_base.specs.Order.{IsOrder}
 use Rattle.forward_index.specs.Forward.{ForwardIndex, IsForward, IsForwardOf}
 use Rattle.forward_index.specs.Cell.{IsCellOf}
 use Rattle.forward_index.specs.Start.{IsStartByName}
@@ -32,3 +33,21 @@ CellOfACell =
 abbrev pub StartByNameIsOne : Type 0
 StartByNameIsOne =
     (index : IndexParts) (a b : List ℕ) → IsStartByName index a → IsStartByName index b → a ≡ b
+
+-- the index has a forward index over the start order
+pub record HasForward (index : IndexParts) (min_df : ℕ) (start : List ℕ) : Type 0 where
+  pub forward : ForwardIndex
+  pub sound : IsForward forward
+  pub is_forward : IsForwardOf index min_df start forward
+
+abbrev pub ForwardIsThere : Type 0
+ForwardIsThere = (index : IndexParts) (min_df : ℕ) (start : List ℕ) → IsIndex index
+    → IsOrder start → length start ≡ length index.documents → HasForward index min_df start
+
+-- the index has a start order by name
+pub record HasStart (index : IndexParts) : Type 0 where
+  pub order : List ℕ
+  pub is_start : IsStartByName index order
+
+abbrev pub StartIsThere : Type 0
+StartIsThere = (index : IndexParts) → length index.documents < 2 ^ 31 → HasStart index

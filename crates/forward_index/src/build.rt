@@ -1,9 +1,10 @@
 //! The forward index of an index, over a start order.
-ghost use Rattle.std.specs.Prelude.{◌≡◌, ℕ, ◌^◌, ◌<◌, ◌≤◌, length, take, sum, sum_by, slice_index, All, IfOk};
+ghost use Rattle.std.specs.Prelude.{◌≡◌, ℕ, ◌^◌, ◌*◌, ◌<◌, ◌≤◌, length, take, sum, sum_by, slice_index, All, IfOk};
 ghost use Rattle.std.specs.List.{range_with_len};
 ghost use Rattle.forward_index.specs.Forward.{IsForward, IsForwardOf};
 ghost use Rattle.forward_index.specs.Rows.{rows_of, begins};
 
+use crate::bands::band_width;
 use crate::count::count_rows;
 use crate::fill::fill_rows;
 use crate::forward::Forward;
@@ -52,7 +53,11 @@ impl Forward {
         index.is_sound();
         start.is_sound();
         let mut ends = vec![in alloc; 0; start.len() as usize]?;
-        let total = start_rows(rt, index, min_df, start, &mut ends, workers);
+        let width = band_width(index);
+        let mut table = vec![in alloc; 0; workers as usize * index.lists() as usize]?;
+        let total = start_rows(
+            rt, index, min_df, start, &mut ends, width, &mut table, workers,
+        );
         let mut entries = vec![in alloc; 0; total as usize]?;
         fill_rows(
             rt,
@@ -63,6 +68,8 @@ impl Forward {
             0,
             &mut ends,
             &mut entries,
+            width,
+            &mut table,
             workers,
         );
         let documents = documents_of(alloc, start)?;
@@ -77,18 +84,23 @@ fn start_rows<R: Threads + Sync>(
     min_df: u32,
     start: &Permutation,
     counts: &mut [u32],
+    width: u32,
+    table: &mut [u32],
     workers: u32,
 ) -> u32
     requires documents { length start.now ≡ length index.now.documents }
     requires len { length counts.old ≡ length start.now }
     requires noughts { All (λ count. count ≡ 0) counts.old }
+    requires some { 0 < width }
+    requires workers { 0 < workers }
+    requires lists { workers * length index.now.lists ≤ length table.old }
     ensures starts { counts.new ≡ begins 0 (rows_of min_df index.now.lists start.now) }
     ensures total { result
         ≡ sum_by (λ row. length row) (rows_of min_df index.now.lists start.now) }
 {
     index.is_sound();
     start.is_sound();
-    count_rows(rt, index, min_df, start, 0, counts, workers);
+    count_rows(rt, index, min_df, start, 0, counts, width, table, workers);
     sums_before(counts)
 }
 

@@ -1,5 +1,6 @@
 //! What holds of forward indexes, as the contracts of functions that do nothing.
 ghost use Rattle.forward_index.specs.Laws.{ForwardIsOne, CellIsOne, CellOfACell, StartByNameIsOne};
+ghost use Rattle.forward_index.specs.Laws.{ForwardIsThere, StartIsThere};
 
 /// An index has one forward index over a start order, and a cell one of its own.
 pub fn forward_is_one()
@@ -15,4 +16,14 @@ pub fn cell_of_a_cell()
 /// An index has one start order by name.
 pub fn start_by_name_is_one()
     ensures law { StartByNameIsOne }
+{}
+
+/// Each index has a forward index over each start order.
+pub fn forward_is_there()
+    ensures law { ForwardIsThere }
+{}
+
+/// Each index has a start order by name.
+pub fn start_by_name_is_there()
+    ensures law { StartIsThere }
 {}

@@ -1,6 +1,7 @@
 //! The forward index: the documents of an index as lists of their terms.
 #![tactic(auto)]
 
+mod bands;
 mod build;
 mod cell;
 mod count;

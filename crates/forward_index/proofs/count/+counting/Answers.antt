@@ -1,7 +1,29 @@
-use Rattle.std.proofs.Common.{◌≡◌, ◌+◌, length, map, arith, rules}
+use Rattle.std.proofs.Common.{◌≡◌, ℕ, ◌+◌, ◌-◌, ◌*◌, ◌/◌, ◌<◌, ◌≤◌, length, map, sym, subst, arith, rules, All}
+use Rattle.std.proofs.lemmas.List.Elements.{All-take, All-drop}
 use Rattle.forward_index.specs.Rows.{rows_of, block}
 use Rattle.forward_index.proofs.Rows.{counts_both}
+use Rattle.forward_index.proofs.Passing.{room_front, room_back}
 use Rattle.forward_index.proofs.count.+counting.Goals as goal
+
+pub join_mut-requires-after_bounds : goal.join_mut-requires-after_bounds
+join_mut-requires-after_bounds g t c κs within =
+    let first = c.args.first in
+    let middle = c.share-middle.result in
+    let old = c.args.counts.now in
+    let parts = c.split_at_mut-front.ensures in
+    let tables = c.split_at_mut-near.ensures in
+    let workers = c.args.workers in
+    let lists = length c.args.index.now.lists in
+    let front_within : first + length c.split_at_mut-front.result.0.now ≤ length c.args.start.now = omega (arith, parts.front_len, c.requires.within, c.share-middle.ensures.less) in
+    let back_within : first + middle + length c.split_at_mut-front.result.1.now ≤ length c.args.start.now = omega (arith, parts.back_len, c.requires.within, c.share-middle.ensures.less) in
+    let front : All (λ (count : ℕ). count ≡ 0) c.split_at_mut-front.result.0.now = subst (All (λ (count : ℕ). count ≡ 0)) (sym parts.front) (All-take (λ (count : ℕ). count ≡ 0) middle old c.requires.noughts) in
+    let back : All (λ (count : ℕ). count ≡ 0) c.split_at_mut-front.result.1.now = subst (All (λ (count : ℕ). count ≡ 0)) (sym parts.back) (All-drop (λ (count : ℕ). count ≡ 0) middle old c.requires.noughts) in
+    let some : 0 < workers / 2 = omega (arith, c.if-workers-lt2.false) in
+    let others : 0 < workers - workers / 2 = omega (arith, c.if-workers-lt2.false) in
+    let near : workers / 2 * lists ≤ length c.split_at_mut-near.result.0.now = room_front (workers / 2) lists (length c.split_at_mut-near.result.0.now) c.lists-2.result c.lists-2.ensures.same tables.front_len in
+    let far : (workers - workers / 2) * lists ≤ length c.split_at_mut-near.result.1.now =
+    room_back (workers / 2) (workers - workers / 2) workers lists c.lists-2.result (length c.split_at_mut-near.result.1.now) (length c.args.table.now) (omega arith) c.lists-2.ensures.same c.requires.lists tables.back_len in
+    ((search rules, (search rules, ((search rules, c.requires.documents, front_within, front, c.requires.some, some, near), search rules))), (search rules, (search rules, ((search rules, c.requires.documents, back_within, back, c.requires.some, others, far), search rules))))
 
 pub returns : goal.returns
 returns g t c =

@@ -1,7 +1,14 @@
--- The lists passed are counted.
-use Rattle.std.proofs.Common.{◌≡◌, ℕ, ◌+◌, ◌<◌, length, get_or, take}
-use Rattle.forward_index.specs.Rows.{row_from}
+-- The documents below the next band are counted.
+use Rattle.std.proofs.Common.{◌≡◌, ◌-◌, length, map}
+use Rattle.forward_index.specs.Rows.{block}
+use Rattle.forward_index.specs.Bands.{ArePassed, rows_below}
 use Rattle.forward_index.proofs.count.count_block.Given as goal
 
-abbrev pub invariant-loop-list : goal.invariant-loop-list
-invariant-loop-list l = (k : ℕ) → k < length l.initial.counts → get_or l.counts k 0 ≡ length (row_from l.min_df (get_or l.start (l.first + k) 0) 0 (take l.list l.index.lists))
+abbrev pub invariant-loop-from : goal.invariant-loop-from
+invariant-loop-from l = record {
+  passed : ArePassed l.min_df l.from l.index.lists l.table;
+  counts : l.counts ≡ map (λ row. length row) (rows_below l.from l.min_df l.index.lists (block l.start l.first (length l.initial.counts)));
+}
+
+abbrev pub decreases-loop-from : goal.decreases-loop-from
+decreases-loop-from l = l.whole.limit - l.from

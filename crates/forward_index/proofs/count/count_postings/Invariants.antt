@@ -1,7 +1,11 @@
 -- The postings passed are counted.
-use Rattle.std.proofs.Common.{◌+◌, get_or, take}
+use Rattle.std.proofs.Common.{◌+◌, ◌<◌, get_or, take, All}
+use Rattle.rgb_base.specs.declared.parts.Posting.{Posting}
 use Rattle.forward_index.specs.Rows.{times, AreMoved}
 use Rattle.forward_index.proofs.count.count_postings.Given as goal
 
-abbrev pub invariant-loop-posting : goal.invariant-loop-posting
-invariant-loop-posting l = AreMoved (λ k. times (get_or l.start (l.first + k) 0) (take l.posting-index l.postings)) l.initial.counts l.counts
+abbrev pub invariant-loop-passed : goal.invariant-loop-passed
+invariant-loop-passed l = record {
+  below : All (λ (posting : Posting). posting.doc < l.limit) (take l.passed l.postings);
+  moved : AreMoved (λ k. times (get_or l.start (l.first + k) 0) (take l.passed l.postings)) l.initial.counts l.counts;
+}

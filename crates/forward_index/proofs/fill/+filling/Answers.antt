@@ -1,6 +1,7 @@
-use Rattle.std.proofs.Common.{◌+◌, ◌≤◌, length, get_or, arith, rules}
+use Rattle.std.proofs.Common.{◌+◌, ◌-◌, ◌*◌, ◌/◌, ◌<◌, ◌≤◌, length, get_or, arith, rules}
 use Rattle.forward_index.specs.Rows.{rows_of, block, AreFilled}
 use Rattle.forward_index.proofs.Blocks.{cut_low, cut_high, front_ready, back_ready, both_filled}
+use Rattle.forward_index.proofs.Passing.{room_front, room_back}
 use Rattle.forward_index.proofs.fill.+filling.Goals as goal
 
 pub overflow_sub-cut : goal.overflow_sub-cut
@@ -27,7 +28,15 @@ join_mut-requires-after_bounds g t c κs within =
     let back = back_ready min_df lists start first base middle old entries c.requires.within c.share-middle.ensures.less c.requires.ready c.split_at_mut-front.result.1.now c.split_at_mut-near.result.1.now parts.back parts.back_len others.back in
     let front_within : first + length c.split_at_mut-front.result.0.now ≤ length start = omega (arith, parts.front_len, c.requires.within, c.share-middle.ensures.less) in
     let back_within : first + middle + length c.split_at_mut-front.result.1.now ≤ length start = omega (arith, parts.back_len, c.requires.within, c.share-middle.ensures.less) in
-    ((search rules, (search rules, ((search rules, c.requires.documents, front_within, front), search rules))), (search rules, (search rules, ((search rules, c.requires.documents, back_within, back), search rules))))
+    let workers = c.args.workers in
+    let count = length lists in
+    let tables = c.split_at_mut-ahead.ensures in
+    let some : 0 < workers / 2 = omega (arith, c.if-workers-lt2.false) in
+    let rest : 0 < workers - workers / 2 = omega (arith, c.if-workers-lt2.false) in
+    let ahead : workers / 2 * count ≤ length c.split_at_mut-ahead.result.0.now = room_front (workers / 2) count (length c.split_at_mut-ahead.result.0.now) c.lists-2.result c.lists-2.ensures.same tables.front_len in
+    let behind : (workers - workers / 2) * count ≤ length c.split_at_mut-ahead.result.1.now =
+    room_back (workers / 2) (workers - workers / 2) workers count c.lists-2.result (length c.split_at_mut-ahead.result.1.now) (length c.args.table.now) (omega arith) c.lists-2.ensures.same c.requires.lists tables.back_len in
+    ((search rules, (search rules, ((search rules, c.requires.documents, front_within, front, c.requires.some, some, ahead), search rules))), (search rules, (search rules, ((search rules, c.requires.documents, back_within, back, c.requires.some, rest, behind), search rules))))
 
 pub returns : goal.returns
 returns g t c =

@@ -1,13 +1,17 @@
--- The lists passed are written.
-use Rattle.std.proofs.Common.{◌≡◌, ℕ, ◌+◌, ◌<◌, length, get_or, take}
-use Rattle.forward_index.specs.Rows.{row_from}
+-- The documents below the next band are written.
+use Rattle.std.proofs.Common.{◌-◌, length}
+use Rattle.forward_index.specs.Rows.{rows_of, block}
+use Rattle.forward_index.specs.Bands.{ArePassed, AreBegun, rows_below}
 use Rattle.forward_index.proofs.fill.fill_block.Given as goal
 
-abbrev pub invariant-loop-list : goal.invariant-loop-list
-invariant-loop-list l = record {
-  cursors : (k : ℕ) → k < length l.initial.cursors
-      → get_or l.cursors k 0 ≡ get_or l.initial.cursors k 0 + length (row_from l.min_df (get_or l.start (l.first + k) 0) 0 (take l.list l.index.lists));
-  entries : (k i j : ℕ) → k < length l.initial.cursors → i < length (row_from l.min_df (get_or l.start (l.first + k) 0) 0 (take l.list l.index.lists))
-      → l.base + j ≡ get_or l.initial.cursors k 0 + i
-      → get_or l.entries j 0 ≡ get_or (row_from l.min_df (get_or l.start (l.first + k) 0) 0 (take l.list l.index.lists)) i 0;
+abbrev pub invariant-loop-from : goal.invariant-loop-from
+invariant-loop-from l = record {
+  passed : ArePassed l.min_df l.from l.index.lists l.table;
+  begun : AreBegun l.base
+      (rows_of l.min_df l.index.lists (block l.start l.first (length l.initial.cursors)))
+      (rows_below l.from l.min_df l.index.lists (block l.start l.first (length l.initial.cursors)))
+      l.cursors l.entries;
 }
+
+abbrev pub decreases-loop-from : goal.decreases-loop-from
+decreases-loop-from l = l.whole.limit - l.from

@@ -12,11 +12,11 @@ from_tables-requires-clause-ends g c =
     let min_df = c.args.min_df in
     let ends = c.fill_rows.new.cursors in
     let entries = c.fill_rows.new.entries in
-    let n = length c.deref_mut-2.result.now in
-    let n_is : n ≡ length start = omega (arith, c.deref_mut-2.ensures.len, c.in_ok-ends.ensures.len, c.len.ensures.same) in
-    let size = ends_size index min_df start c.is_sound.ensures.sound c.is_sound-2.ensures.sound c.requires.len n c.lists.result ends entries c.in_ok-documents.documents.items n_is c.lists.ensures.same c.in_ok-documents.ensures c.fill_rows.ensures.filled in
-    let room = entries_size index min_df start c.is_sound.ensures.sound c.is_sound-2.ensures.sound c.requires.len n c.lists.result ends entries c.in_ok-documents.documents.items n_is c.lists.ensures.same c.in_ok-documents.ensures c.fill_rows.ensures.filled in
-    let held = are_ends index min_df start c.is_sound.ensures.sound c.is_sound-2.ensures.sound c.requires.len n c.lists.result ends entries c.in_ok-documents.documents.items n_is c.lists.ensures.same c.in_ok-documents.ensures c.fill_rows.ensures.filled in
+    let n = length c.deref_mut-3.result.now in
+    let n_is : n ≡ length start = omega (arith, c.deref_mut-3.ensures.len, c.in_ok-ends.ensures.len, c.len.ensures.same) in
+    let size = ends_size index min_df start c.is_sound.ensures.sound c.is_sound-2.ensures.sound c.requires.len n c.lists-2.result ends entries c.in_ok-documents.documents.items n_is c.lists-2.ensures.same c.in_ok-documents.ensures c.fill_rows.ensures.filled in
+    let room = entries_size index min_df start c.is_sound.ensures.sound c.is_sound-2.ensures.sound c.requires.len n c.lists-2.result ends entries c.in_ok-documents.documents.items n_is c.lists-2.ensures.same c.in_ok-documents.ensures c.fill_rows.ensures.filled in
+    let held = are_ends index min_df start c.is_sound.ensures.sound c.is_sound-2.ensures.sound c.requires.len n c.lists-2.result ends entries c.in_ok-documents.documents.items n_is c.lists-2.ensures.same c.in_ok-documents.ensures c.fill_rows.ensures.filled in
     let ends_back = take_at ends (drop (length ends) (take c.in_ok-ends.ends.len (c.start_rows-total.new.counts ++ drop (length c.start_rows-total.new.counts) c.in_ok-ends.ends.items))) c.in_ok-ends.ends.len (omega (arith, size, c.in_ok-ends.ensures.len, c.len.ensures.same)) in
     let entries_back = take_at entries (drop (length entries) c.in_ok-entries.entries.items) c.in_ok-entries.entries.len (omega (arith, room, c.in_ok-entries.ensures.len, c.start_rows-total.ensures.total)) in
     subst (λ (es : List ℕ). AreEnds 0 es (length (take c.in_ok-entries.entries.len (entries ++ drop (length entries) c.in_ok-entries.entries.items)))) (sym ends_back)
@@ -30,16 +30,16 @@ from_tables-requires-clause-sound g c =
     let ends = c.fill_rows.new.cursors in
     let entries = c.fill_rows.new.entries in
     let documents = c.in_ok-documents.documents.items in
-    let n = length c.deref_mut-2.result.now in
-    let n_is : n ≡ length start = omega (arith, c.deref_mut-2.ensures.len, c.in_ok-ends.ensures.len, c.len.ensures.same) in
-    let size = ends_size index min_df start c.is_sound.ensures.sound c.is_sound-2.ensures.sound c.requires.len n c.lists.result ends entries documents n_is c.lists.ensures.same c.in_ok-documents.ensures c.fill_rows.ensures.filled in
-    let room = entries_size index min_df start c.is_sound.ensures.sound c.is_sound-2.ensures.sound c.requires.len n c.lists.result ends entries documents n_is c.lists.ensures.same c.in_ok-documents.ensures c.fill_rows.ensures.filled in
-    let is = is_the_forward index min_df start c.is_sound.ensures.sound c.is_sound-2.ensures.sound c.requires.len n c.lists.result ends entries documents n_is c.lists.ensures.same c.in_ok-documents.ensures c.fill_rows.ensures.filled in
+    let n = length c.deref_mut-3.result.now in
+    let n_is : n ≡ length start = omega (arith, c.deref_mut-3.ensures.len, c.in_ok-ends.ensures.len, c.len.ensures.same) in
+    let size = ends_size index min_df start c.is_sound.ensures.sound c.is_sound-2.ensures.sound c.requires.len n c.lists-2.result ends entries documents n_is c.lists-2.ensures.same c.in_ok-documents.ensures c.fill_rows.ensures.filled in
+    let room = entries_size index min_df start c.is_sound.ensures.sound c.is_sound-2.ensures.sound c.requires.len n c.lists-2.result ends entries documents n_is c.lists-2.ensures.same c.in_ok-documents.ensures c.fill_rows.ensures.filled in
+    let is = is_the_forward index min_df start c.is_sound.ensures.sound c.is_sound-2.ensures.sound c.requires.len n c.lists-2.result ends entries documents n_is c.lists-2.ensures.same c.in_ok-documents.ensures c.fill_rows.ensures.filled in
     let ends_back = take_at ends (drop (length ends) (take c.in_ok-ends.ends.len (c.start_rows-total.new.counts ++ drop (length c.start_rows-total.new.counts) c.in_ok-ends.ends.items))) c.in_ok-ends.ends.len (omega (arith, size, c.in_ok-ends.ensures.len, c.len.ensures.same)) in
     let entries_back = take_at entries (drop (length entries) c.in_ok-entries.entries.items) c.in_ok-entries.entries.len (omega (arith, room, c.in_ok-entries.ensures.len, c.start_rows-total.ensures.total)) in
-    let sound : IsForward (made c.lists.result (pieces 0 ends entries) documents) = subst IsForward (sym is) (forward_sound index min_df start c.is_sound.ensures.sound c.is_sound-2.ensures.sound c.requires.len) in
-    subst (λ (es : List ℕ). IsForward (made c.lists.result (pieces 0 es (take c.in_ok-entries.entries.len (entries ++ drop (length entries) c.in_ok-entries.entries.items))) documents)) (sym ends_back)
-    (subst (λ (xs : List ℕ). IsForward (made c.lists.result (pieces 0 ends xs) documents)) (sym entries_back) sound)
+    let sound : IsForward (made c.lists-2.result (pieces 0 ends entries) documents) = subst IsForward (sym is) (forward_sound index min_df start c.is_sound.ensures.sound c.is_sound-2.ensures.sound c.requires.len) in
+    subst (λ (es : List ℕ). IsForward (made c.lists-2.result (pieces 0 es (take c.in_ok-entries.entries.len (entries ++ drop (length entries) c.in_ok-entries.entries.items))) documents)) (sym ends_back)
+    (subst (λ (xs : List ℕ). IsForward (made c.lists-2.result (pieces 0 ends xs) documents)) (sym entries_back) sound)
 
 pub returns-clause-ok : goal.returns-clause-ok
 returns-clause-ok g c =
@@ -49,16 +49,16 @@ returns-clause-ok g c =
     let ends = c.fill_rows.new.cursors in
     let entries = c.fill_rows.new.entries in
     let documents = c.in_ok-documents.documents.items in
-    let n = length c.deref_mut-2.result.now in
-    let n_is : n ≡ length start = omega (arith, c.deref_mut-2.ensures.len, c.in_ok-ends.ensures.len, c.len.ensures.same) in
-    let size = ends_size index min_df start c.is_sound.ensures.sound c.is_sound-2.ensures.sound c.requires.len n c.lists.result ends entries documents n_is c.lists.ensures.same c.in_ok-documents.ensures c.fill_rows.ensures.filled in
-    let room = entries_size index min_df start c.is_sound.ensures.sound c.is_sound-2.ensures.sound c.requires.len n c.lists.result ends entries documents n_is c.lists.ensures.same c.in_ok-documents.ensures c.fill_rows.ensures.filled in
-    let is = is_the_forward index min_df start c.is_sound.ensures.sound c.is_sound-2.ensures.sound c.requires.len n c.lists.result ends entries documents n_is c.lists.ensures.same c.in_ok-documents.ensures c.fill_rows.ensures.filled in
+    let n = length c.deref_mut-3.result.now in
+    let n_is : n ≡ length start = omega (arith, c.deref_mut-3.ensures.len, c.in_ok-ends.ensures.len, c.len.ensures.same) in
+    let size = ends_size index min_df start c.is_sound.ensures.sound c.is_sound-2.ensures.sound c.requires.len n c.lists-2.result ends entries documents n_is c.lists-2.ensures.same c.in_ok-documents.ensures c.fill_rows.ensures.filled in
+    let room = entries_size index min_df start c.is_sound.ensures.sound c.is_sound-2.ensures.sound c.requires.len n c.lists-2.result ends entries documents n_is c.lists-2.ensures.same c.in_ok-documents.ensures c.fill_rows.ensures.filled in
+    let is = is_the_forward index min_df start c.is_sound.ensures.sound c.is_sound-2.ensures.sound c.requires.len n c.lists-2.result ends entries documents n_is c.lists-2.ensures.same c.in_ok-documents.ensures c.fill_rows.ensures.filled in
     let ends_back = take_at ends (drop (length ends) (take c.in_ok-ends.ends.len (c.start_rows-total.new.counts ++ drop (length c.start_rows-total.new.counts) c.in_ok-ends.ends.items))) c.in_ok-ends.ends.len (omega (arith, size, c.in_ok-ends.ensures.len, c.len.ensures.same)) in
     let entries_back = take_at entries (drop (length entries) c.in_ok-entries.entries.items) c.in_ok-entries.entries.len (omega (arith, room, c.in_ok-entries.ensures.len, c.start_rows-total.ensures.total)) in
     let given : c.from_tables.result ≡ the_forward index min_df start c.is_sound.ensures.sound c.is_sound-2.ensures.sound c.requires.len =
     c.from_tables.ensures.same
-    ∙ ap (λ (es : List ℕ). made c.lists.result (pieces 0 es (take c.in_ok-entries.entries.len (entries ++ drop (length entries) c.in_ok-entries.entries.items))) documents) ends_back
-    ∙ ap (λ (xs : List ℕ). made c.lists.result (pieces 0 ends xs) documents) entries_back
+    ∙ ap (λ (es : List ℕ). made c.lists-2.result (pieces 0 es (take c.in_ok-entries.entries.len (entries ++ drop (length entries) c.in_ok-entries.entries.items))) documents) ends_back
+    ∙ ap (λ (xs : List ℕ). made c.lists-2.result (pieces 0 ends xs) documents) entries_back
     ∙ is in
     subst (IsForwardOf index min_df start) (sym given) (forward_of index min_df start c.is_sound.ensures.sound c.is_sound-2.ensures.sound c.requires.len)
