@@ -1,15 +1,17 @@
 -- Costs and gains are small.
-use Rattle.std.proofs.Common.{◌≡◌, ℕ, zero, suc, ◌+◌, ◌-◌, ◌*◌, ◌^◌, ◌<◌, ◌≤◌, ℤ, pos, negsuc, ◌-ℤ◌, ◌*ℤ◌, ◌≤ℤ◌, ◌<ℤ◌, true, false, List, [], ◌∷◌, length, get_or, drop, ap, All, arith, sum}
+use Rattle.std.proofs.Common.{◌≡◌, ℕ, zero, suc, ◌+◌, ◌-◌, ◌*◌, ◌^◌, ◌<◌, ◌≤◌, ℤ, pos, negsuc, ◌-ℤ◌, ◌*ℤ◌, ◌≤ℤ◌, ◌<ℤ◌, ◌+ℤ◌, add-one, refl, ◌∙◌, true, false, List, [], ◌∷◌, length, get_or, drop, ap, All, arith, sum}
 use Rattle.std.specs.Int.RustNames.{unsigned_abs, FitsSigned}
 use mir.Syntax.{w64, w128}
 use lib.Signed.{le_z}
 use mir.Val.{to_z, of_z}
 use Rattle.std.specs.List.{sum_by}
-use Rattle.std.proofs.Math.Nat.{mul-le-mul_left}
+use Rattle.std.proofs.Math.IntN.{suc_ℤ-*ℤ, zero-*ℤ}
+use Rattle.std.proofs.Math.Nat.{mul-le-mul_left, suc-mul, zero-mul}
 use Rattle.std.proofs.lemmas.Int.{ints, unsigned_abs-mul, fits_signed_from_abs, to_z-of_z}
 use Rattle.std.proofs.lemmas.List.Sums.{sum_by-cons, sum_by-drop_more}
 use Rattle.std.proofs.lemmas.List.Elements.{All-head, All-tail}
 use Rattle.fixed_log.specs.Log.{lg, LogIsSmall}
+use Rattle.fixed_log.specs.Growth.{log_product, growth}
 use Rattle.degrees.specs.Sums.{total_by}
 use Rattle.degrees.specs.Cost.{part}
 use Rattle.exchange.specs.Gain.{term_gain}
@@ -90,9 +92,41 @@ total_small f m (x ∷ xs) small =
     let rest = total_small f m xs (All-tail (λ y. IsWithin m (f y)) x xs small) in
     record { low = omega (arith, ints, head.low, rest.low); high = omega (arith, ints, head.high, rest.high) }
 
-pub part_by_log : (count size log : ℕ) → log ≡ lg size → pos count *ℤ (pos log -ℤ pos (lg (count + 1))) ≡ part count size
-unfolding part
-part_by_log count size log is = ap (λ (l : ℕ). pos count *ℤ (pos l -ℤ pos (lg (count + 1)))) is
+-- ---- by growths
+
+times_apart : (d x y : ℕ) → pos d *ℤ (pos x -ℤ pos y) ≡ pos (d * x) -ℤ pos (d * y)
+times_apart zero x y =
+    let none : pos 0 *ℤ (pos x -ℤ pos y) ≡ pos 0 = zero-*ℤ (pos x -ℤ pos y) in
+    omega (arith, ints, none, zero-mul x, zero-mul y)
+times_apart (suc d) x y =
+    let rest : pos d *ℤ (pos x -ℤ pos y) ≡ pos (d * x) -ℤ pos (d * y) = times_apart d x y in
+    let step : pos (suc d) *ℤ (pos x -ℤ pos y) ≡ pos d *ℤ (pos x -ℤ pos y) +ℤ (pos x -ℤ pos y) = suc_ℤ-*ℤ (pos d) (pos x -ℤ pos y) in
+    step ∙ omega (arith, ints, rest, suc-mul d x, suc-mul d y)
+
+part_by_product : (d n : ℕ) → part d n ≡ pos (d * lg n) -ℤ pos (log_product d)
+unfolding part log_product
+part_by_product d n = times_apart d (lg n) (lg (d + 1))
+
+growth_by_products : (d : ℕ) → growth d ≡ pos (log_product d) -ℤ pos (log_product (d - 1))
+unfolding growth
+growth_by_products d = refl
+
+-- one document less in a half, and one more in the other
+pub term_gain_by_growths : (m n own other : ℕ) → 0 < own → term_gain m n own other ≡ ((pos (lg m) -ℤ pos (lg n)) +ℤ growth (other + 1)) -ℤ growth own
+unfolding term_gain
+term_gain_by_growths m n zero other some = absurd (omega (arith, some))
+term_gain_by_growths m n (suc less) other some =
+    let same : suc less - 1 ≡ less = omega arith in
+    let back : other + 1 - 1 ≡ other = omega arith in
+    let one = part_by_product (suc less) m in
+    let two = part_by_product other n in
+    let three : part (suc less - 1) m ≡ pos (less * lg m) -ℤ pos (log_product less) = ap (λ (k : ℕ). part k m) same ∙ part_by_product less m in
+    let four = part_by_product (other + 1) n in
+    let grown = growth_by_products (other + 1) in
+    let grown_back : log_product (other + 1 - 1) ≡ log_product other = ap log_product back in
+    let shrunk = growth_by_products (suc less) in
+    let shrunk_back : log_product (suc less - 1) ≡ log_product less = ap log_product same in
+    omega (arith, ints, one, two, three, four, grown, grown_back, shrunk, shrunk_back, suc-mul less (lg m), suc-mul other (lg n), add-one other)
 
 -- ---- tests
 

@@ -28,3 +28,5 @@ pub mod ThereOrdered
 pub mod TherePairs
 pub mod ThereRound
 pub mod ThereHalving
+pub mod Merged
+pub mod Keys

@@ -1,5 +1,5 @@
 -- The gain of a document, term by term.
-use Rattle.std.proofs.Common.{◌≡◌, ℕ, ◌+◌, ◌-◌, ◌*◌, ◌^◌, ◌<◌, ◌≤◌, ℤ, ◌+ℤ◌, List, [], ◌∷◌, ◌++◌, length, get_or, take, refl, sym, subst, ap, ◌∙◌, All, sum, arith, add-one}
+use Rattle.std.proofs.Common.{◌≡◌, ℕ, ◌+◌, ◌-◌, ◌*◌, ◌^◌, ◌<◌, ◌≤◌, ℤ, pos, ◌+ℤ◌, ◌-ℤ◌, List, [], ◌∷◌, ◌++◌, length, get_or, take, refl, sym, subst, ap, ◌∙◌, All, sum, arith, add-one}
 use Rattle.std.specs.Prelude.{slice_get, Some}
 use Rattle.std.specs.List.{sum_by}
 use Rattle.std.proofs.Math.Seq.{take-suc}
@@ -10,13 +10,13 @@ use Rattle.std.proofs.lemmas.List.Sums.{sum_by-cons, sum_by_more_le, sum_by_more
 use Rattle.rgb_base.specs.declared.parts.Side.{Side}
 use Rattle.rgb_base.specs.declared.parts.Side.TheVariants.{A, B}
 use Rattle.forward_index.specs.Forward.{ForwardIndex, IsForward, IsRow, row_at}
-use Rattle.fixed_log.specs.Log.{lg}
+use Rattle.fixed_log.specs.Log.{lg, LogIsSmall}
 use Rattle.degrees.specs.Sums.{total_by}
 use Rattle.degrees.specs.Counts.{Counted, IsCounted, counts_in}
 use Rattle.exchange.specs.Gain.{term_gain, term_gain_of}
 use Rattle.exchange.specs.Tries.{counts_beside, size_in, size_beside, IsWithin}
 use Rattle.exchange.proofs.Totals.{total_by-append, IsRowFrom-from_rising}
-use Rattle.exchange.proofs.Bounds.{row_sum_small}
+use Rattle.exchange.proofs.Bounds.{row_sum_small, term_gain_small}
 
 -- ---- rows
 
@@ -92,10 +92,21 @@ gain_step side table row i sum g z sound is within same small g_same g_small z_i
       within_sum (sum_by (both_counts table) (take i row) * 8388608) (both_counts table (get_or row i 0) * 8388608) (2 ^ 56) sum g z small g_small z_is (omega (arith, few)),
     )
 
-pub g_is : (side : Side) (table : Counted) (t own other own_log other_log : ℕ) (g : ℤ) → ((m n : ℕ) → own_log ≡ lg m → other_log ≡ lg n → g ≡ term_gain m n own other)
-    → own_log ≡ lg (size_in side table) → other_log ≡ lg (size_beside side table) → own ≡ get_or (counts_in side table) t 0 → other ≡ get_or (counts_beside side table) t 0 → g ≡ term_gain_of side table t
-g_is side table t own other own_log other_log g same is_m is_n is_own is_other =
-    same (size_in side table) (size_beside side table) is_m is_n
-    ∙ ap (λ (k : ℕ). term_gain (size_in side table) (size_beside side table) k other) is_own
-    ∙ ap (λ (k : ℕ). term_gain (size_in side table) (size_beside side table) (get_or (counts_in side table) t 0) k) is_other
+pub g_is : (side : Side) (table : Counted) (t own other : ℕ) (apart g : ℤ) → ((m n : ℕ) → 0 < own → apart ≡ pos (lg m) -ℤ pos (lg n) → g ≡ term_gain m n own other)
+    → apart ≡ pos (lg (size_in side table)) -ℤ pos (lg (size_beside side table)) → own ≡ get_or (counts_in side table) t 0 → other ≡ get_or (counts_beside side table) t 0 → 0 < get_or (counts_in side table) t 0 → g ≡ term_gain_of side table t
+g_is side table t own other apart g same is_apart is_own is_other some =
+    same (size_in side table) (size_beside side table) (omega (arith, some, is_own)) is_apart
+    ∙ ap (λ (n : ℕ). term_gain (size_in side table) (size_beside side table) n other) is_own
+    ∙ ap (λ (n : ℕ). term_gain (size_in side table) (size_beside side table) (get_or (counts_in side table) t 0) n) is_other
     ∙ term_gain_is side table t
+
+-- what a term of the half gains is as small as its counts
+pub g_small : LogIsSmall → (side : Side) (table : Counted) (t : ℕ) (g : ℤ) → IsCounted table → 0 < table.len_a → 0 < table.len_b → t < length table.a → 0 < get_or (counts_in side table) t 0 → g ≡ term_gain_of side table t
+    → IsWithin (both_counts table t * 8388608) g
+g_small logs A table t g sound some_a some_b within some is =
+    subst (IsWithin (both_counts table t * 8388608)) (sym is)
+    (term_gain_small logs table.len_a table.len_b (get_or table.a t 0) (get_or table.b t 0) some_a (omega (arith, sound.len_a)) some_b (omega (arith, sound.len_b)) some (omega (arith, sound.both t within)))
+g_small logs B table t g sound some_a some_b within some is =
+    let swapped : get_or table.b t 0 + get_or table.a t 0 ≡ both_counts table t = omega arith in
+    subst (IsWithin (both_counts table t * 8388608)) (sym is) (subst (λ (n : ℕ). IsWithin (n * 8388608) (term_gain table.len_b table.len_a (get_or table.b t 0) (get_or table.a t 0))) swapped
+    (term_gain_small logs table.len_b table.len_a (get_or table.b t 0) (get_or table.a t 0) some_b (omega (arith, sound.len_b)) some_a (omega (arith, sound.len_a)) some (omega (arith, sound.both t within))))

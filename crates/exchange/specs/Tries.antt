@@ -31,10 +31,14 @@ pub record IsWithin (m : ℕ) (z : ℤ) : Type 0 where
   pub low : neg_ℤ (pos m) ≤ℤ z
   pub high : z ≤ℤ pos m
 
--- the step of a term adds to the gain of a document of the half what the term does
+-- the step of a term that the half has adds to the gain of a document what the term does; it fits
+-- 32 bits
 pub record IsStep (side : Side) (table : Counted) (term : ℕ) (step : ℤ) : Type 0 where
   pub same : 0 < slice_index (counts_in side table) term → step ≡ term_gain_of side table term
-  pub small : IsWithin ((slice_index table.a term + slice_index table.b term) * 2 ^ 23) step
+  pub small : 0 < slice_index (counts_in side table) term
+      → IsWithin ((slice_index table.a term + slice_index table.b term) * 2 ^ 23) step
+  pub low : neg_ℤ (pos (2 ^ 31)) ≤ℤ step
+  pub high : step <ℤ pos (2 ^ 31)
 
 -- so for each step that is there
 abbrev pub AreSteps : Side → Counted → List ℤ → Type 0

@@ -3,6 +3,7 @@
 
 mod entry;
 mod ground;
+mod halves;
 mod halving;
 pub mod laws;
 mod moves;

@@ -1,7 +1,8 @@
 //! What the moves of documents gain.
-ghost use Rattle.std.specs.Prelude.{◌≡◌, ◌+◌, ◌*◌, ◌<◌, ◌≤◌, ◌^◌, ℕ, pos, ◌-ℤ◌, ◌*ℤ◌, length, map, slice_index, All};
+ghost use Rattle.std.specs.Prelude.{◌≡◌, ◌+◌, ◌*◌, ◌<◌, ◌≤◌, ◌^◌, ℕ, pos, ◌-ℤ◌, length, map, take, slice_index, All};
 ghost use Rattle.std.specs.Thread.{IsSync};
 ghost use Rattle.fixed_log.specs.Log.{lg};
+ghost use Rattle.fixed_log.specs.Growth.{AreGrowths};
 ghost use Rattle.forward_index.specs.Forward.{row_at};
 ghost use Rattle.degrees.specs.Counts.{counts_in, IsCountedIn};
 ghost use Rattle.exchange.specs.Gain.{term_gain, gain_of, IsReady};
@@ -11,7 +12,7 @@ use crate::entry::Entry;
 use crate::ground::Ground;
 use degrees::Degrees;
 use fixed_log::LogTable;
-use fixed_log::laws::log_is_small;
+use fixed_log::laws::{growth_is_small, log_is_small};
 use rayon::join_mut;
 use rgb_base::Side;
 use std::thread::Threads;
@@ -44,11 +45,12 @@ pub(crate) fn narrow_gain(ground: &Ground<'_>, degrees: &Degrees, doc: u32, from
     degrees.is_sound();
     ground.forward.is_sound();
     log_is_small();
-    let (own_log, other_log) = size_logs(ground.logs, degrees, from);
+    let apart = logs_apart(ground.logs, degrees, from);
+    let growths = ground.logs.growths();
     let mut sum = 0;
     for term in ground.forward.terms_of(doc) {
         let (own, other) = counts(degrees, *term, from);
-        sum += narrow_term_gain(ground.logs, own, other, own_log, other_log);
+        sum += narrow_term_gain(growths, own, other, apart);
     }
     sum
 }
@@ -153,7 +155,7 @@ pub(crate) fn fill_shared<R: Threads + Sync>(
     degrees: &Degrees,
     docs: &[u32],
     from: Side,
-    steps: &[i64],
+    steps: &[i32],
     entries: &mut [Entry],
     workers: u32,
 )
@@ -212,7 +214,7 @@ fn fill(
     degrees: &Degrees,
     docs: &[u32],
     from: Side,
-    steps: &[i64],
+    steps: &[i32],
     entries: &mut [Entry],
 )
     requires len { length entries.old ≡ length docs.now }
@@ -236,7 +238,7 @@ fn fill(
 }
 
 /// What the move of a document gains, by the steps where there are those of all terms.
-fn entry_gain(ground: &Ground<'_>, degrees: &Degrees, doc: u32, from: Side, steps: &[i64]) -> i64
+fn entry_gain(ground: &Ground<'_>, degrees: &Degrees, doc: u32, from: Side, steps: &[i32]) -> i64
     requires terms { length degrees.now.a ≡ ground.now.forward.now.terms }
     requires below { doc < length ground.now.forward.now.rows }
     requires counted { IsCountedIn from (row_at ground.now.forward.now.rows doc) degrees.now }
@@ -253,7 +255,7 @@ fn entry_gain(ground: &Ground<'_>, degrees: &Degrees, doc: u32, from: Side, step
 }
 
 /// What the move of a document gains, as the sum of its terms' steps.
-fn gain_by_steps(ground: &Ground<'_>, degrees: &Degrees, doc: u32, from: Side, steps: &[i64]) -> i64
+fn gain_by_steps(ground: &Ground<'_>, degrees: &Degrees, doc: u32, from: Side, steps: &[i32]) -> i64
     requires terms { length degrees.now.a ≡ ground.now.forward.now.terms }
     requires below { doc < length ground.now.forward.now.rows }
     requires counted { IsCountedIn from (row_at ground.now.forward.now.rows doc) degrees.now }
@@ -267,54 +269,52 @@ fn gain_by_steps(ground: &Ground<'_>, degrees: &Degrees, doc: u32, from: Side, s
     ground.forward.is_sound();
     let mut sum = 0;
     for term in ground.forward.terms_of(doc) {
-        sum += steps[*term as usize];
+        sum += i64::from(steps[*term as usize]);
     }
     sum
 }
 
-/// Fills the steps of terms: what each of them adds to the gains of a half's documents.
-pub(crate) fn fill_steps(ground: &Ground<'_>, degrees: &Degrees, from: Side, steps: &mut [i64])
+/// Fills the steps of terms, as far as 32 bits hold them: what each of them adds to the gains of a
+/// half's documents. Gives how many there are.
+pub(crate) fn fill_steps(
+    ground: &Ground<'_>,
+    degrees: &Degrees,
+    from: Side,
+    steps: &mut [i32],
+) -> usize
     requires len { length steps.old ≤ length degrees.now.a }
     requires ready { IsReady ground.now.logs.now degrees.now }
-    ensures steps { AreSteps from degrees.now steps.new }
+    ensures steps { AreSteps from degrees.now (take result steps.new) }
+    ensures within { result ≤ length steps.new }
     ensures len { length steps.new ≡ length steps.old }
 {
     degrees.is_sound();
     log_is_small();
-    let (own_log, other_log) = size_logs(ground.logs, degrees, from);
+    let apart = logs_apart(ground.logs, degrees, from);
+    let growths = ground.logs.growths();
     for term in 0..steps.len() {
         let (own, other) = counts(degrees, term as u32, from);
-        steps[term] = step(ground.logs, own, other, own_log, other_log);
+        let step = narrow_term_gain(growths, own, other, apart);
+        let Ok(narrow) = i32::try_from(step) else {
+            return term;
+        };
+        steps[term] = narrow;
     }
+    steps.len()
 }
 
-/// What a term adds to the gain of a document that has it, and 0 where the half has no such one.
-fn step(logs: &LogTable, own: u32, other: u32, own_log: u32, other_log: u32) -> i64
-    requires low { own + other < logs.now }
-    requires few { own + other < 2 ^ 31 }
-    requires small { own_log < 2 ^ 22 }
-    requires other_small { other_log < 2 ^ 22 }
-    ensures same { (m n : ℕ) → 0 < own → own_log ≡ lg m → other_log ≡ lg n
-        → result ≡ term_gain m n own other }
-    ensures within { IsWithin ((own + other) * 2 ^ 23) result }
-{
-    if own == 0 {
-        return 0;
-    }
-    narrow_term_gain(logs, own, other, own_log, other_log)
-}
-
-/// The logarithms of the sizes of a half and of the other.
-fn size_logs(logs: &LogTable, degrees: &Degrees, half: Side) -> (u32, u32)
+/// By how much the logarithm of a half's size is larger than that of the other's.
+fn logs_apart(logs: &LogTable, degrees: &Degrees, half: Side) -> i64
     requires ready { IsReady logs.now degrees.now }
-    ensures own { result.0 ≡ lg (size_in half degrees.now) }
-    ensures other { result.1 ≡ lg (size_beside half degrees.now) }
+    ensures same { result
+        ≡ pos (lg (size_in half degrees.now)) -ℤ pos (lg (size_beside half degrees.now)) }
+    ensures small { IsWithin (2 ^ 32) result }
 {
-    let log_a = logs.lg(degrees.len_a());
-    let log_b = logs.lg(degrees.len_b());
+    let log_a = i64::from(logs.lg(degrees.len_a()));
+    let log_b = i64::from(logs.lg(degrees.len_b()));
     match half {
-        Side::A => (log_a, log_b),
-        Side::B => (log_b, log_a),
+        Side::A => log_a - log_b,
+        Side::B => log_b - log_a,
     }
 }
 
@@ -330,32 +330,18 @@ fn counts(degrees: &Degrees, term: u32, half: Side) -> (u32, u32)
     }
 }
 
-/// What a term of a document that moves costs less, by the term's counts and the logarithms of the
-/// sizes.
-fn narrow_term_gain(logs: &LogTable, own: u32, other: u32, own_log: u32, other_log: u32) -> i64
-    requires some { 0 < own }
-    requires low { own + other < logs.now }
+/// What a term of a document that moves costs less, by the term's counts and how far the logarithms
+/// of the sizes are apart.
+#[inline]
+fn narrow_term_gain(growths: &[i64], own: u32, other: u32, apart: i64) -> i64
+    requires growths { AreGrowths growths.now }
+    requires low { own + other + 1 < length growths.now }
     requires few { own + other < 2 ^ 31 }
-    requires small { own_log < 2 ^ 22 }
-    requires other_small { other_log < 2 ^ 22 }
-    ensures same { (m n : ℕ) → own_log ≡ lg m → other_log ≡ lg n
+    requires small { IsWithin (2 ^ 32) apart }
+    ensures same { (m n : ℕ) → 0 < own → apart ≡ pos (lg m) -ℤ pos (lg n)
         → result ≡ term_gain m n own other }
-    ensures within { IsWithin ((own + other) * 2 ^ 23) result }
+    ensures within { IsWithin (2 ^ 55) result }
 {
-    log_is_small();
-    narrow_part(logs, own, own_log) + narrow_part(logs, other, other_log)
-        - narrow_part(logs, own - 1, own_log)
-        - narrow_part(logs, other + 1, other_log)
-}
-
-/// What a term of so many documents costs in a half, by the logarithm of its size.
-fn narrow_part(logs: &LogTable, count: u32, size_log: u32) -> i64
-    requires low { count < logs.now }
-    requires few { count < 2 ^ 31 }
-    requires small { size_log < 2 ^ 22 }
-    ensures same { result ≡ pos count *ℤ (pos size_log -ℤ pos (lg (count + 1))) }
-    ensures within { IsWithin (count * 2 ^ 22) result }
-{
-    log_is_small();
-    i64::from(count) * (i64::from(size_log) - i64::from(logs.lg(count + 1)))
+    growth_is_small();
+    apart + growths[other as usize + 1] - growths[own as usize]
 }

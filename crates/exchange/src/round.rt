@@ -1,5 +1,6 @@
 //! One round of exchanges.
 ghost use Rattle.std.specs.Prelude.{◌≡◌, ◌≢◌, ◌++◌, ◌<◌, ◌≤◌, length, All, AllPairs, IsPermutation};
+ghost use Rattle.std.specs.Thread.{IsSync};
 ghost use Rattle.rgb_base.specs.Order.{AreNumbers};
 ghost use Rattle.forward_index.specs.Forward.{row_at};
 ghost use Rattle.degrees.specs.Counts.{IsCountedIn, loaded, cost_of};
@@ -8,12 +9,14 @@ ghost use Rattle.exchange.specs.Round.{IsRound};
 ghost use Rattle.exchange.specs.Halving.{half_a, half_b};
 ghost use Rattle.exchange.specs.Tries.{docs_of, HasGain, IsLow};
 
-use crate::entry::{Entry, put_half, rank_pairs};
-use crate::ground::Ground;
+use crate::entry::{Entry, rank_pairs};
+use crate::ground::{Ground, MANY};
+use crate::halves::exchange_documents;
 use crate::moves::{fill_shared, fill_steps};
 use crate::scratch::Scratch;
 use crate::tries::first_less;
 use degrees::Degrees;
+use rayon::join_mut;
 use rgb_base::Side;
 use std::thread::Threads;
 
@@ -97,18 +100,28 @@ pub(crate) fn round_from<R: Threads + Sync>(
     ensures same { IsPermutation docs.old docs.new }
     ensures room { scratch.new ≡ scratch.old }
 {
-    let Scratch { entries, steps } = scratch;
-    round_in(rt, ground, degrees, docs, entries, steps, before)
+    let Scratch {
+        entries,
+        keys,
+        leaving,
+        steps,
+    } = scratch;
+    round_in(
+        rt, ground, degrees, docs, entries, keys, leaving, steps, before,
+    )
 }
 
-/// The same with room for an entry a document, and maybe for a step a term.
+/// The same with room for an entry, a key and a document for each document, and maybe for two steps
+/// a term.
 fn round_in<R: Threads + Sync>(
     rt: &R,
     ground: &Ground<'_>,
     degrees: &mut Degrees,
     docs: &mut [u32],
     entries: &mut [Entry],
-    steps: &mut [i64],
+    keys: &mut [u64],
+    leaving: &mut [u32],
+    steps: &mut [i32],
     before: i128,
 ) -> Round
     requires top { length ground.now.forward.now.rows < ground.now.logs.now }
@@ -117,6 +130,8 @@ fn round_in<R: Threads + Sync>(
     requires table { degrees.old ≡ loaded
         ground.now.forward.now (half_a docs.old) (half_b docs.old) degrees.old.loads }
     requires room { length docs.old ≤ length entries.old }
+    requires room_keys { length docs.old ≤ length keys.old }
+    requires room_leaving { length docs.old ≤ length leaving.old }
     requires before { before ≡ cost_of degrees.old }
     ensures round { IsRound ground.now.forward.now
         (half_a docs.old) (half_b docs.old) result (half_a docs.new) (half_b docs.new) }
@@ -128,15 +143,22 @@ fn round_in<R: Threads + Sync>(
     let (a, b) = docs.split_at_mut(middle);
     let (entries_a, rest) = entries.split_at_mut(middle);
     let entries_b = &mut rest[..b.len()];
-    let steps = steps_for(degrees, a.len(), steps);
+    let (keys_a, rest) = keys.split_at_mut(middle);
+    let keys_b = &mut rest[..b.len()];
+    let (leaving_a, rest) = leaving.split_at_mut(middle);
+    let leaving_b = &mut rest[..b.len()];
+    let (steps_a, steps_b) = steps.split_at_mut(steps.len() / 2);
+    let steps_a = steps_for(degrees, a.len(), steps_a);
+    let steps_b = steps_for(degrees, b.len(), steps_b);
     round_of_halves(
-        rt, ground, degrees, a, b, entries_a, entries_b, steps, before,
+        rt, ground, degrees, a, b, entries_a, entries_b, keys_a, keys_b, leaving_a, leaving_b,
+        steps_a, steps_b, before,
     )
 }
 
 /// The room for the steps of all terms, or none where there is less, or where the documents of a
 /// half are so few that their gains are sooner worked out from the counts.
-fn steps_for<'a>(degrees: &Degrees, docs: usize, room: &'a mut [i64]) -> &'a mut [i64]
+fn steps_for<'a>(degrees: &Degrees, docs: usize, room: &'a mut [i32]) -> &'a mut [i32]
     ensures room { length result.now ≤ length degrees.now.a }
 {
     let terms = degrees.terms() as usize;
@@ -147,15 +169,87 @@ fn steps_for<'a>(degrees: &Degrees, docs: usize, room: &'a mut [i64]) -> &'a mut
     }
 }
 
-/// Fills the entries with the documents of a half and their gains.
+/// Fills the entries with the documents of both halves and their gains. Where the halves are worked
+/// on one after the other, both use the steps of half A, which a cache has then.
+fn fill_halves<R: Threads + Sync>(
+    rt: &R,
+    ground: &Ground<'_>,
+    degrees: &Degrees,
+    a: &[u32],
+    b: &[u32],
+    steps_a: &mut [i32],
+    steps_b: &mut [i32],
+    entries_a: &mut [Entry],
+    entries_b: &mut [Entry],
+)
+    requires len_a { length entries_a.old ≡ length a.now }
+    requires len_b { length entries_b.old ≡ length b.now }
+    requires terms { length degrees.now.a ≡ ground.now.forward.now.terms }
+    requires below_a { All (λ doc. doc < length ground.now.forward.now.rows) a.now }
+    requires below_b { All (λ doc. doc < length ground.now.forward.now.rows) b.now }
+    requires counted_a { All (λ doc. IsCountedIn Side.A
+        (row_at ground.now.forward.now.rows doc) degrees.now) a.now }
+    requires counted_b { All (λ doc. IsCountedIn Side.B
+        (row_at ground.now.forward.now.rows doc) degrees.now) b.now }
+    requires ready { IsReady ground.now.logs.now degrees.now }
+    requires steps_a { length steps_a.old ≤ length degrees.now.a }
+    requires steps_b { length steps_b.old ≤ length degrees.now.a }
+    ensures same_a { docs_of entries_a.new ≡ a.now }
+    ensures same_b { docs_of entries_b.new ≡ b.now }
+    ensures gains_a { All (HasGain Side.A degrees.now ground.now.forward.now.rows) entries_a.new }
+    ensures gains_b { All (HasGain Side.B degrees.now ground.now.forward.now.rows) entries_b.new }
+    ensures low_a { All IsLow entries_a.new }
+    ensures low_b { All IsLow entries_b.new }
+{
+    let workers = ground.workers;
+    if workers < 2 || a.len() < MANY {
+        fill_half(rt, ground, degrees, a, Side::A, steps_a, entries_a, workers);
+        fill_half(rt, ground, degrees, b, Side::B, steps_a, entries_b, workers);
+        return;
+    }
+    let helpers = workers / 2;
+    let others = workers - helpers;
+    join_mut(
+        rt,
+        &mut ||
+            requires { IsSync R.row × (length entries_a.now ≡ length a.now)
+                × (length degrees.now.a ≡ ground.now.forward.now.terms)
+                × All (λ doc. doc < length ground.now.forward.now.rows) a.now
+                × All (λ doc. IsCountedIn Side.A
+                (row_at ground.now.forward.now.rows doc) degrees.now) a.now
+                × IsReady ground.now.logs.now degrees.now
+                × (length steps_a.now ≤ length degrees.now.a) }
+            ensures { (docs_of entries_a.exit.now ≡ a.entry.now)
+                × All (HasGain Side.A degrees.entry.now ground.entry.now.forward.now.rows)
+                entries_a.exit.now
+                × All IsLow entries_a.exit.now }
+        { fill_half(rt, ground, degrees, a, Side::A, steps_a, entries_a, helpers) },
+        &mut ||
+            requires { IsSync R.row × (length entries_b.now ≡ length b.now)
+                × (length degrees.now.a ≡ ground.now.forward.now.terms)
+                × All (λ doc. doc < length ground.now.forward.now.rows) b.now
+                × All (λ doc. IsCountedIn Side.B
+                (row_at ground.now.forward.now.rows doc) degrees.now) b.now
+                × IsReady ground.now.logs.now degrees.now
+                × (length steps_b.now ≤ length degrees.now.a) }
+            ensures { (docs_of entries_b.exit.now ≡ b.entry.now)
+                × All (HasGain Side.B degrees.entry.now ground.entry.now.forward.now.rows)
+                entries_b.exit.now
+                × All IsLow entries_b.exit.now }
+        { fill_half(rt, ground, degrees, b, Side::B, steps_b, entries_b, others) },
+    );
+}
+
+/// Fills the entries with the documents of a half and their gains, by so many threads.
 fn fill_half<R: Threads + Sync>(
     rt: &R,
     ground: &Ground<'_>,
     degrees: &Degrees,
     docs: &[u32],
     from: Side,
-    steps: &mut [i64],
+    steps: &mut [i32],
     entries: &mut [Entry],
+    workers: u32,
 )
     requires len { length entries.old ≡ length docs.now }
     requires terms { length degrees.now.a ≡ ground.now.forward.now.terms }
@@ -169,16 +263,16 @@ fn fill_half<R: Threads + Sync>(
     ensures gains { All (HasGain from degrees.now ground.now.forward.now.rows) entries.new }
     ensures low { All IsLow entries.new }
 {
-    fill_steps(ground, degrees, from, steps);
+    let filled = fill_steps(ground, degrees, from, steps);
     fill_shared(
         rt,
         ground,
         degrees,
         docs,
         from,
-        steps,
+        &steps[..filled],
         entries,
-        ground.workers,
+        workers,
     );
 }
 
@@ -192,7 +286,12 @@ fn round_of_halves<R: Threads + Sync>(
     b: &mut [u32],
     entries_a: &mut [Entry],
     entries_b: &mut [Entry],
-    steps: &mut [i64],
+    keys_a: &mut [u64],
+    keys_b: &mut [u64],
+    leaving_a: &mut [u32],
+    leaving_b: &mut [u32],
+    steps_a: &mut [i32],
+    steps_b: &mut [i32],
     before: i128,
 ) -> Round
     requires top { length ground.now.forward.now.rows < ground.now.logs.now }
@@ -201,7 +300,12 @@ fn round_of_halves<R: Threads + Sync>(
     requires places { AreNumbers (length ground.now.forward.now.rows) (a.old ++ b.old) }
     requires room { length entries_a.old ≡ length a.old }
     requires room_b { length entries_b.old ≡ length b.old }
-    requires steps { length steps.old ≤ length degrees.old.a }
+    requires keys { length keys_a.old ≡ length a.old }
+    requires keys_b { length keys_b.old ≡ length b.old }
+    requires leaving { length leaving_a.old ≡ length a.old }
+    requires leaving_b { length leaving_b.old ≡ length b.old }
+    requires steps_a { length steps_a.old ≤ length degrees.old.a }
+    requires steps_b { length steps_b.old ≤ length degrees.old.a }
     requires table { degrees.old
         ≡ loaded ground.now.forward.now a.old b.old degrees.old.loads }
     requires before { before ≡ cost_of degrees.old }
@@ -211,9 +315,10 @@ fn round_of_halves<R: Threads + Sync>(
     ensures same { IsPermutation (a.old ++ b.old) (a.new ++ b.new) }
 {
     ground.forward.is_sound();
-    fill_half(rt, ground, degrees, a, Side::A, steps, entries_a);
-    fill_half(rt, ground, degrees, b, Side::B, steps, entries_b);
-    let pairs = rank_pairs(entries_a, entries_b);
+    fill_halves(
+        rt, ground, degrees, a, b, steps_a, steps_b, entries_a, entries_b,
+    );
+    let pairs = rank_pairs(rt, entries_a, entries_b, keys_a, keys_b, ground.workers);
     if pairs == 0 {
         return Round::Still;
     }
@@ -225,8 +330,17 @@ fn round_of_halves<R: Threads + Sync>(
             pairs: pairs as u32,
         });
     }
-    put_half(a, last.pairs, entries_a, entries_b);
-    put_half(b, last.pairs, entries_b, entries_a);
+    exchange_documents(
+        rt,
+        a,
+        b,
+        last.pairs,
+        entries_a,
+        entries_b,
+        leaving_a,
+        leaving_b,
+        ground.workers,
+    );
     Round::Kept(Kept {
         before,
         after: last.after,

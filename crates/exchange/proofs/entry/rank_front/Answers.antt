@@ -1,16 +1,31 @@
-use Rattle.std.proofs.Common.{◌≡◌, ◌^◌, ℤ, ◌++◌, to_z, of_z, w64, drop, subst, arith}
-use Rattle.exchange.specs.Tries.{docs_of, IsParted}
+use Rattle.std.proofs.Common.{◌≡◌, ◌^◌, ℤ, ◌++◌, ◌≤ℤ◌, to_z, of_z, w64, take, drop, All, sym, subst, arith}
+use Rattle.std.proofs.lemmas.List.Elements.{All-take}
+use Rattle.std.proofs.lemmas.List.Sorted.{All-permutation}
+use Rattle.exchange.specs.Tries.{docs_of, IsLow, IsParted}
 use Rattle.exchange.proofs.Bounds.{read_back}
 use Rattle.exchange.proofs.Exchanged.{Differ-permutation}
 use Rattle.exchange.proofs.Fronts.{docs_to}
 use Rattle.exchange.proofs.Parted.{differ_front, front_permuted, front_parted}
 use Rattle.exchange.proofs.entry.rank_front.Goals as goal
 
-pub rank-requires : goal.rank-requires
-rank-requires c =
+pub rank-requires-clause-differ : goal.rank-requires-clause-differ
+rank-requires-clause-differ c =
     let old = c.args.entries.now in
     let xs = c.part-front.new.entries in
-    record { differ = differ_front c.part-front.result xs (Differ-permutation (docs_of old) (docs_of xs) (docs_to old xs c.part-front.ensures.same) c.requires.differ) }
+    differ_front c.part-front.result xs (Differ-permutation (docs_of old) (docs_of xs) (docs_to old xs c.part-front.ensures.same) c.requires.differ)
+
+pub rank-requires-clause-low : goal.rank-requires-clause-low
+rank-requires-clause-low c =
+    let xs = c.part-front.new.entries in
+    All-take IsLow c.part-front.result xs (All-permutation IsLow c.args.entries.now xs c.part-front.ensures.same c.requires.low)
+
+pub rank-requires-clause-most : goal.rank-requires-clause-most
+rank-requires-clause-most c =
+    let greatest = c.args.greatest in
+    let back : to_z w64 (of_z w64 greatest) ≡ greatest = read_back (2 ^ 56) greatest (omega arith) c.requires.small_greatest in
+    let xs = c.part-front.new.entries in
+    let most = All-permutation (λ e. e.gain ≤ℤ greatest) c.args.entries.now xs c.part-front.ensures.same c.requires.most in
+    subst (λ (z : ℤ). All (λ e. e.gain ≤ℤ z) (take c.part-front.result xs)) (sym back) (All-take (λ e. e.gain ≤ℤ greatest) c.part-front.result xs most)
 
 pub returns-clause-same : goal.returns-clause-same
 returns-clause-same c = front_permuted c.part-front.result c.args.entries.now c.part-front.new.entries c.rank.new.entries c.part-front.ensures.same c.rank.ensures.same

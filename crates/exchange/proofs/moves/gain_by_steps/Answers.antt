@@ -1,4 +1,4 @@
-use Rattle.std.proofs.Common.{◌≡◌, ℕ, ◌+◌, ◌*◌, ◌^◌, ◌<◌, ℤ, ◌+ℤ◌, pos, to_z, of_z, w64, List, length, get_or, take, refl, sym, subst, ap, ◌∙◌, arith}
+use Rattle.std.proofs.Common.{◌≡◌, ℕ, ◌+◌, ◌*◌, ◌^◌, ◌<◌, ℤ, ◌+ℤ◌, pos, to_z, of_z, w64, w32, List, length, get_or, take, refl, sym, subst, ap, ◌∙◌, arith}
 use Rattle.std.specs.List.{sum_by}
 use Rattle.std.proofs.lemmas.Int.{ints}
 use Rattle.std.proofs.lemmas.List.{take_all, get_or_default}
@@ -31,11 +31,12 @@ overflow_add-sum c =
     let low = is.below i 0 c.loop-term-test.true in
     let counted = subst (λ (terms : List ℕ). (k : ℕ) (d : ℕ) → k < length terms → 0 < get_or (counts_in side table) (get_or terms k d) 0) (row_read c.args.ground.now.forward.now.rows c.args.doc row c.terms_of-term-items.ensures.same) c.requires.counted in
     let step : IsStep side table (get_or row i 0) g = c.requires.steps (get_or row i 0) (omega (arith, low, c.requires.len)) in
-    let z = sum +ℤ to_z w64 (of_z w64 g) in
+    let z = sum +ℤ to_z w64 (of_z w64 c.from-sum.result) in
     let few = c.is_sound.ensures.sound.both (get_or row i 0) low in
-    let g_back = read_back (both_counts table (get_or row i 0) * 8388608) g (omega (arith, few)) step.small in
-    let z_is : z ≡ sum +ℤ g = ap (λ (y : ℤ). sum +ℤ y) g_back in
-    let more = gain_step side table row i sum g z c.is_sound.ensures.sound is c.loop-term-test.true c.loop-term.invariant.same c.loop-term.invariant.small (step.same (counted i 0 c.loop-term-test.true)) step.small z_is in
+    let g_back = read_back (both_counts table (get_or row i 0) * 8388608) g (omega (arith, few)) (step.small (counted i 0 c.loop-term-test.true)) in
+    let told : to_z w32 (of_z w32 g) ≡ g = omega (arith, ints, step.low, step.high) in
+    let z_is : z ≡ sum +ℤ g = ap (λ (y : ℤ). sum +ℤ to_z w64 (of_z w64 y)) (c.from-sum.ensures ∙ told) ∙ ap (λ (y : ℤ). sum +ℤ y) g_back in
+    let more = gain_step side table row i sum g z c.is_sound.ensures.sound is c.loop-term-test.true c.loop-term.invariant.same c.loop-term.invariant.small (step.same (counted i 0 c.loop-term-test.true)) (step.small (counted i 0 c.loop-term-test.true)) z_is in
     fits (2 ^ 56) z (omega arith) more.2
 
 pub loop-term-preserved : goal.loop-term-preserved
@@ -50,11 +51,12 @@ loop-term-preserved c =
     let low = is.below i 0 c.loop-term-test.true in
     let counted = subst (λ (terms : List ℕ). (k : ℕ) (d : ℕ) → k < length terms → 0 < get_or (counts_in side table) (get_or terms k d) 0) (row_read c.args.ground.now.forward.now.rows c.args.doc row c.terms_of-term-items.ensures.same) c.requires.counted in
     let step : IsStep side table (get_or row i 0) g = c.requires.steps (get_or row i 0) (omega (arith, low, c.requires.len)) in
-    let z = sum +ℤ to_z w64 (of_z w64 g) in
+    let z = sum +ℤ to_z w64 (of_z w64 c.from-sum.result) in
     let few = c.is_sound.ensures.sound.both (get_or row i 0) low in
-    let g_back = read_back (both_counts table (get_or row i 0) * 8388608) g (omega (arith, few)) step.small in
-    let z_is : z ≡ sum +ℤ g = ap (λ (y : ℤ). sum +ℤ y) g_back in
-    let more = gain_step side table row i sum g z c.is_sound.ensures.sound is c.loop-term-test.true c.loop-term.invariant.same c.loop-term.invariant.small (step.same (counted i 0 c.loop-term-test.true)) step.small z_is in
+    let g_back = read_back (both_counts table (get_or row i 0) * 8388608) g (omega (arith, few)) (step.small (counted i 0 c.loop-term-test.true)) in
+    let told : to_z w32 (of_z w32 g) ≡ g = omega (arith, ints, step.low, step.high) in
+    let z_is : z ≡ sum +ℤ g = ap (λ (y : ℤ). sum +ℤ to_z w64 (of_z w64 y)) (c.from-sum.ensures ∙ told) ∙ ap (λ (y : ℤ). sum +ℤ y) g_back in
+    let more = gain_step side table row i sum g z c.is_sound.ensures.sound is c.loop-term-test.true c.loop-term.invariant.same c.loop-term.invariant.small (step.same (counted i 0 c.loop-term-test.true)) (step.small (counted i 0 c.loop-term-test.true)) z_is in
     let back = read_back (2 ^ 56) z (omega arith) more.2 in
     record {
       same = back ∙ more.0;

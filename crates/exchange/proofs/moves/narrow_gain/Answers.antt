@@ -7,7 +7,7 @@ use Rattle.degrees.specs.Sums.{total_by}
 use Rattle.exchange.specs.Gain.{term_gain_of}
 use Rattle.exchange.specs.Tries.{IsWithin}
 use Rattle.exchange.proofs.Bounds.{fits, read_back}
-use Rattle.exchange.proofs.RowGains.{row_read, row_table, both_counts, total_small, both_of, gain_step, g_is, within_weaker}
+use Rattle.exchange.proofs.RowGains.{row_read, row_table, both_counts, total_small, gain_step, g_is, g_small, within_weaker}
 use Rattle.exchange.proofs.moves.narrow_gain.Goals as goal
 
 pub loop-term-init : goal.loop-term-init
@@ -19,14 +19,6 @@ counts-own-requires c =
     let is = row_table c.args.ground.now.forward.now c.args.degrees.now c.args.doc c.terms_of-term-items.result.now c.is_sound-2.ensures.sound c.requires.below c.terms_of-term-items.ensures.same c.requires.terms in
     is.below c.loop-term.term-index 0 c.loop-term-test.true
 
-pub narrow_term_gain-sum-requires-clause-some : goal.narrow_term_gain-sum-requires-clause-some
-narrow_term_gain-sum-requires-clause-some c =
-    let table = c.args.degrees.now in
-    let side = c.args.from in
-    let row = row_read c.args.ground.now.forward.now.rows c.args.doc c.terms_of-term-items.result.now c.terms_of-term-items.ensures.same in
-    let counted = subst (λ (terms : List ℕ). (k : ℕ) (d : ℕ) → k < length terms → 0 < get_or (counts_in side table) (get_or terms k d) 0) row c.requires.counted in
-    omega (arith, c.counts-own.ensures.own, counted c.loop-term.term-index 0 c.loop-term-test.true)
-
 pub overflow_add-sum : goal.overflow_add-sum
 overflow_add-sum c =
     let table = c.args.degrees.now in
@@ -36,12 +28,15 @@ overflow_add-sum c =
     let sum = to_z w64 c.loop-term.sum-bits in
     let g = c.narrow_term_gain-sum.result in
     let is = row_table c.args.ground.now.forward.now table c.args.doc row c.is_sound-2.ensures.sound c.requires.below c.terms_of-term-items.ensures.same c.requires.terms in
-    let counts : c.counts-own.result.0 + c.counts-own.result.1 ≡ both_counts table (get_or row i 0) = omega (arith, c.counts-own.ensures.own, c.counts-own.ensures.other, both_of side table (get_or row i 0)) in
-    let g_small : IsWithin (both_counts table (get_or row i 0) * 8388608) g = subst (λ (n : ℕ). IsWithin (n * 8388608) g) counts c.narrow_term_gain-sum.ensures.within in
-    let g_same = g_is side table (get_or row i 0) c.counts-own.result.0 c.counts-own.result.1 c.size_logs-own_log.result.0 c.size_logs-own_log.result.1 g c.narrow_term_gain-sum.ensures.same c.size_logs-own_log.ensures.own c.size_logs-own_log.ensures.other c.counts-own.ensures.own c.counts-own.ensures.other in
+    let low = is.below i 0 c.loop-term-test.true in
+    let counted = subst (λ (terms : List ℕ). (k : ℕ) (d : ℕ) → k < length terms → 0 < get_or (counts_in side table) (get_or terms k d) 0) (row_read c.args.ground.now.forward.now.rows c.args.doc row c.terms_of-term-items.ensures.same) c.requires.counted in
+    let some = counted i 0 c.loop-term-test.true in
+    let apart = read_back (2 ^ 32) c.logs_apart-apart.result (omega arith) c.logs_apart-apart.ensures.small in
+    let g_same = g_is side table (get_or row i 0) c.counts-own.result.0 c.counts-own.result.1 (to_z w64 (of_z w64 c.logs_apart-apart.result)) g c.narrow_term_gain-sum.ensures.same (apart ∙ c.logs_apart-apart.ensures.same) c.counts-own.ensures.own c.counts-own.ensures.other some in
+    let g_low = g_small c.log_is_small.ensures.small side table (get_or row i 0) g c.is_sound.ensures.sound c.requires.ready.some_a c.requires.ready.some_b low some g_same in
     let z = sum +ℤ to_z w64 (of_z w64 g) in
-    let z_is : z ≡ sum +ℤ g = omega (arith, ints) in
-    fits (2 ^ 56) z (omega arith) (gain_step side table row i sum g z c.is_sound.ensures.sound is c.loop-term-test.true c.loop-term.invariant.same c.loop-term.invariant.small g_same g_small z_is).2
+    let z_is : z ≡ sum +ℤ g = ap (λ (y : ℤ). sum +ℤ y) (read_back (2 ^ 55) g (omega arith) c.narrow_term_gain-sum.ensures.within) in
+    fits (2 ^ 56) z (omega arith) (gain_step side table row i sum g z c.is_sound.ensures.sound is c.loop-term-test.true c.loop-term.invariant.same c.loop-term.invariant.small g_same g_low z_is).2
 
 pub loop-term-preserved : goal.loop-term-preserved
 loop-term-preserved c =
@@ -52,12 +47,15 @@ loop-term-preserved c =
     let sum = to_z w64 c.loop-term.sum-bits in
     let g = c.narrow_term_gain-sum.result in
     let is = row_table c.args.ground.now.forward.now table c.args.doc row c.is_sound-2.ensures.sound c.requires.below c.terms_of-term-items.ensures.same c.requires.terms in
-    let counts : c.counts-own.result.0 + c.counts-own.result.1 ≡ both_counts table (get_or row i 0) = omega (arith, c.counts-own.ensures.own, c.counts-own.ensures.other, both_of side table (get_or row i 0)) in
-    let g_small : IsWithin (both_counts table (get_or row i 0) * 8388608) g = subst (λ (n : ℕ). IsWithin (n * 8388608) g) counts c.narrow_term_gain-sum.ensures.within in
-    let g_same = g_is side table (get_or row i 0) c.counts-own.result.0 c.counts-own.result.1 c.size_logs-own_log.result.0 c.size_logs-own_log.result.1 g c.narrow_term_gain-sum.ensures.same c.size_logs-own_log.ensures.own c.size_logs-own_log.ensures.other c.counts-own.ensures.own c.counts-own.ensures.other in
+    let low = is.below i 0 c.loop-term-test.true in
+    let counted = subst (λ (terms : List ℕ). (k : ℕ) (d : ℕ) → k < length terms → 0 < get_or (counts_in side table) (get_or terms k d) 0) (row_read c.args.ground.now.forward.now.rows c.args.doc row c.terms_of-term-items.ensures.same) c.requires.counted in
+    let some = counted i 0 c.loop-term-test.true in
+    let apart = read_back (2 ^ 32) c.logs_apart-apart.result (omega arith) c.logs_apart-apart.ensures.small in
+    let g_same = g_is side table (get_or row i 0) c.counts-own.result.0 c.counts-own.result.1 (to_z w64 (of_z w64 c.logs_apart-apart.result)) g c.narrow_term_gain-sum.ensures.same (apart ∙ c.logs_apart-apart.ensures.same) c.counts-own.ensures.own c.counts-own.ensures.other some in
+    let g_low = g_small c.log_is_small.ensures.small side table (get_or row i 0) g c.is_sound.ensures.sound c.requires.ready.some_a c.requires.ready.some_b low some g_same in
     let z = sum +ℤ to_z w64 (of_z w64 g) in
-    let z_is : z ≡ sum +ℤ g = omega (arith, ints) in
-    let step = gain_step side table row i sum g z c.is_sound.ensures.sound is c.loop-term-test.true c.loop-term.invariant.same c.loop-term.invariant.small g_same g_small z_is in
+    let z_is : z ≡ sum +ℤ g = ap (λ (y : ℤ). sum +ℤ y) (read_back (2 ^ 55) g (omega arith) c.narrow_term_gain-sum.ensures.within) in
+    let step = gain_step side table row i sum g z c.is_sound.ensures.sound is c.loop-term-test.true c.loop-term.invariant.same c.loop-term.invariant.small g_same g_low z_is in
     let back = read_back (2 ^ 56) z (omega arith) step.2 in
     record {
       same = back ∙ step.0;

@@ -1,7 +1,7 @@
-use Rattle.std.proofs.Common.{subst, sym, ℕ}
+use Rattle.std.proofs.Common.{ℕ, sym, subst}
 use Rattle.std.proofs.lemmas.List.Sorted.{IsNonDecreasingBy-from_sort}
 use Rattle.exchange.proofs.Exchanged.{Differ, Differ-permutation, rising_from_sorted}
-use Rattle.exchange.proofs.entry.put_half.Goals as goal
+use Rattle.exchange.proofs.halves.put_in_order.Goals as goal
 
 pub returns-clause-rising : goal.returns-clause-rising
 returns-clause-rising c =

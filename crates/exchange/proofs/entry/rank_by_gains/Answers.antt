@@ -7,7 +7,7 @@ use Rattle.exchange.specs.Tries.{docs_of}
 use Rattle.exchange.proofs.Exchanged.{Differ-permutation}
 use Rattle.exchange.proofs.Ranked.{rank_cmp, rank_total, ranked_from_sorted}
 use Rattle.std.proofs.lemmas.List.Sorted.{IsPermutation-map}
-use Rattle.exchange.proofs.entry.rank.Goals as goal
+use Rattle.exchange.proofs.entry.rank_by_gains.Goals as goal
 
 pub returns-clause-ranked : goal.returns-clause-ranked
 returns-clause-ranked c =
