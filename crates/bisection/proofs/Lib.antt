@@ -7,10 +7,6 @@ pub mod LawMoves
 pub mod LawParts
 pub mod LawSlabs
 pub mod ThereCells
-pub mod ThereSums
-pub mod ThereRows
-pub mod ThereForward
-pub mod ThereStart
 pub mod ThereAll
 pub mod Places
 pub mod Levels

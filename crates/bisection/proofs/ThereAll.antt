@@ -1,5 +1,6 @@
 -- An index has a numbering over each start order.
-use Rattle.bisection.specs.There.{HasForward, HasNumbering, NumberingIsThere, ForwardIsThere, NumberingOfIsThere}
+use Rattle.forward_index.specs.Laws.{HasForward, ForwardIsThere}
+use Rattle.bisection.specs.There.{HasNumbering, NumberingIsThere, NumberingOfIsThere}
 
 pub numbering_of_is_there : NumberingIsThere → ForwardIsThere → NumberingOfIsThere
 numbering_of_is_there numbered has index min_df start limits depth sound ordered len =

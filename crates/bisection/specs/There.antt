@@ -1,11 +1,9 @@
--- That cells, numberings, forward indexes and start orders are there, each the contract of a call
--- of its own.
-use Rattle.std.specs.Prelude.{◌≡◌, ℕ, ◌^◌, ◌<◌, List, length}
+-- That cells and numberings are there, each the contract of a call of its own.
+use Rattle.std.specs.Prelude.{◌≡◌, ℕ, List, length}
 use Rattle.std.specs.List.Sorted.{IsStrictlyIncreasing}
 use Rattle.rgb_base.specs.Parts.{IndexParts, IsIndex}
 use Rattle.rgb_base.specs.Order.{IsOrder}
-use Rattle.forward_index.specs.Forward.{ForwardIndex, IsForward, IsForwardOf}
-use Rattle.forward_index.specs.Start.{IsStartByName}
+use Rattle.forward_index.specs.Forward.{ForwardIndex}
 use Rattle.bisection.specs.declared.trace.KeptRound.{KeptRound}
 use Rattle.bisection.specs.Recursion.{Limits, IsBisected, IsNumbered}
 use Rattle.bisection.specs.Progress.{IsNumberingOf}
@@ -34,24 +32,6 @@ NumberingIsThere =
     (forward : ForwardIndex) (limits : Limits) (depth : ℕ) → HasNumbering forward limits depth
 
 -- ---- an index
-
--- the index has a forward index over the start order
-pub record HasForward (index : IndexParts) (min_df : ℕ) (start : List ℕ) : Type 0 where
-  pub forward : ForwardIndex
-  pub sound : IsForward forward
-  pub is_forward : IsForwardOf index min_df start forward
-
-abbrev pub ForwardIsThere : Type 0
-ForwardIsThere = (index : IndexParts) (min_df : ℕ) (start : List ℕ) → IsIndex index
-    → IsOrder start → length start ≡ length index.documents → HasForward index min_df start
-
--- the index has a start order by name
-pub record HasStart (index : IndexParts) : Type 0 where
-  pub order : List ℕ
-  pub is_start : IsStartByName index order
-
-abbrev pub StartIsThere : Type 0
-StartIsThere = (index : IndexParts) → length index.documents < 2 ^ 31 → HasStart index
 
 -- the index has a numbering over the start order, and its trace
 pub record HasNumberingOf (index : IndexParts) (min_df : ℕ) (start : List ℕ) (limits : Limits)

@@ -12,9 +12,13 @@ use degrees::Degrees;
 use exchange::{Ground, Kept, KeptList, Scratch, halve};
 use fixed_log::LogTable;
 use forward_index::Forward;
+use rayon::join_mut;
 use rgb_base::OutOfMemory;
 use std::alloc::{AllocError, Global};
 use std::thread::Threads;
+
+/// Rows of fewer documents are not worth a thread.
+const FEW: usize = 1024;
 
 /// A cell where it stands in the order: how many documents it has, and its own rows if it is halved
 /// further.
@@ -70,8 +74,7 @@ pub(crate) fn halve_cell<R: Threads + Sync>(
     let kept = halve_places(rt, alloc, slab, rows, &mut places, workers)?;
     arrange(alloc, docs, &places)?;
     let (front, back) = places.split_at(places.len() - places.len() / 2);
-    let a = part_of(alloc, slab, rows, front, level)?;
-    let b = part_of(alloc, slab, rows, back, level)?;
+    let (a, b) = parts_of(rt, alloc, slab, rows, front, back, level, workers)?;
     Ok(Split { a, b, kept })
 }
 
@@ -141,6 +144,47 @@ fn looked_up(alloc: Global, table: &[u32], places: &[u32]) -> Result<Vec<u32>, A
         .iter()
         .map(|place| table[*place as usize])
         .collect(alloc)
+}
+
+/// Both parts of a cell, each as below: side by side where there are threads for both.
+fn parts_of<R: Threads + Sync>(
+    rt: &R,
+    alloc: Global,
+    slab: &Slab<'_>,
+    rows: &Forward,
+    front: &[u32],
+    back: &[u32],
+    level: u32,
+    workers: u32,
+) -> Result<(Part, Part), OutOfMemory>
+    requires few { length front.now < 2 ^ 32 }
+    requires few_b { length back.now < 2 ^ 32 }
+    requires cell { IsCellIn rows.now front.now }
+    requires cell_b { IsCellIn rows.now back.now }
+    ensures a { IfOk result (λ parts. IsPartOf rows.now (limits_of slab.now.options)
+        slab.now.options.depth level front.now parts.0) }
+    ensures b { IfOk result (λ parts. IsPartOf rows.now (limits_of slab.now.options)
+        slab.now.options.depth level back.now parts.1) }
+{
+    if workers < 2 || front.len() < FEW {
+        let a = part_of(alloc, slab, rows, front, level)?;
+        let b = part_of(alloc, slab, rows, back, level)?;
+        return Ok((a, b));
+    }
+    let (a, b) = join_mut(
+        rt,
+        &mut || -> Result<Part, OutOfMemory>
+            requires { (length front.now < 2 ^ 32) × IsCellIn rows.now front.now }
+            ensures { IfOk result (IsPartOf rows.entry.now (limits_of slab.entry.now.options)
+                slab.entry.now.options.depth level front.entry.now) }
+        { part_of(alloc, slab, rows, front, level) },
+        &mut || -> Result<Part, OutOfMemory>
+            requires { (length back.now < 2 ^ 32) × IsCellIn rows.now back.now }
+            ensures { IfOk result (IsPartOf rows.entry.now (limits_of slab.entry.now.options)
+                slab.entry.now.options.depth level back.entry.now) }
+        { part_of(alloc, slab, rows, back, level) },
+    );
+    Ok((a?, b?))
 }
 
 /// The part of a cell over its parent's rows, with rows of its own if it is halved further.

@@ -2,15 +2,15 @@
 ghost use Rattle.bisection.specs.Laws.{BisectionIsOne, NumberingIsOne, EachDocumentOnce};
 ghost use Rattle.bisection.specs.Laws.{RoundsStandInOrder, BisectionOverTheCell};
 ghost use Rattle.bisection.specs.Laws.{LevelsAddUp, SlabsAreOneRecursion};
-ghost use Rattle.bisection.specs.There.{BisectionIsThere, NumberingIsThere};
-ghost use Rattle.bisection.specs.There.{ForwardIsThere, StartIsThere, NumberingOfIsThere};
+ghost use Rattle.forward_index.specs.Laws.{ForwardIsThere, StartIsThere};
+ghost use Rattle.bisection.specs.There.{BisectionIsThere, NumberingIsThere, NumberingOfIsThere};
 ghost use Rattle.bisection.specs.Cells.{AreLaws};
 
 use exchange::laws::{
     halves_are_there, halves_keep_documents, halves_over_the_cell, halving_is_one,
     kept_rounds_are_a_chain,
 };
-use forward_index::laws::cell_of_a_cell;
+use forward_index::laws::{cell_of_a_cell, forward_is_there, start_by_name_is_there};
 
 /// A cell comes to one list of cells and one trace, and a forward index to one numbering.
 pub fn bisection_is_one()
@@ -67,6 +67,8 @@ pub fn numbering_of_is_there()
     ensures start { StartIsThere }
     ensures law { NumberingOfIsThere }
 {
+    forward_is_there();
+    start_by_name_is_there();
     numbering_is_there();
 }
 

@@ -26,8 +26,8 @@ arrange-requires-clause-below g c =
     let all : All (λ k. k < length c.args.docs.now) new = subst (λ (m : ℕ). All (λ k. k < m) new) (sym c.requires.len) (subst (λ (xs : List ℕ). All (λ k. k < n) xs) (halves_join new) both) in
     subst (λ (xs : List ℕ). All (λ k. k < length c.args.docs.now) xs) (sym order) all
 
-pub part_of-requires-clause-cell : goal.part_of-requires-clause-cell
-part_of-requires-clause-cell g c =
+pub parts_of-requires-clause-cell : goal.parts_of-requires-clause-cell
+parts_of-requires-clause-cell g c κs within =
     let rows = c.args.rows.now in
     let n = length rows.rows in
     let new = c.halve_places.new.places in
@@ -41,8 +41,8 @@ part_of-requires-clause-cell g c =
     let here : IsCellIn rows (half_a new) = record { rising = keep.rising_a; below = All-take (λ (k : ℕ). k < n) ((length new + 1) / 2) new all } in
     subst (λ (xs : List ℕ). IsCellIn rows xs) (sym front) here
 
-pub part_of-requires-2-clause-cell : goal.part_of-requires-2-clause-cell
-part_of-requires-2-clause-cell g c =
+pub parts_of-requires-clause-cell_b : goal.parts_of-requires-clause-cell_b
+parts_of-requires-clause-cell_b g c κs within =
     let rows = c.args.rows.now in
     let n = length rows.rows in
     let new = c.halve_places.new.places in
@@ -74,7 +74,7 @@ returns g c =
         places = new;
         are_halves = c.in_ok-kept.ensures.ok;
         in_order = c.in_ok-arrange.ensures.ok ∙ ap (λ (xs : List ℕ). map (λ k. get_or c.args.docs.now k 0) xs) order;
-        part_a = subst (λ (xs : List ℕ). IsPartOf rows limits depth c.args.level xs c.in_ok-a.a) front c.in_ok-a.ensures.ok;
-        part_b = subst (λ (xs : List ℕ). IsPartOf rows limits depth c.args.level xs c.in_ok-b.b) back c.in_ok-b.ensures.ok;
+        part_a = subst (λ (xs : List ℕ). IsPartOf rows limits depth c.args.level xs c.in_ok-a.a) front c.in_ok-a.ensures.a;
+        part_b = subst (λ (xs : List ℕ). IsPartOf rows limits depth c.args.level xs c.in_ok-a.b) back c.in_ok-a.ensures.b;
       };
     }
