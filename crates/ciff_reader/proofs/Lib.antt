@@ -3,10 +3,13 @@ pub mod Slots
 pub mod RecordFields
 pub mod HeaderFields
 pub mod Rows
+pub mod Runs
 pub mod ListFields
 pub mod Closing
 pub mod Reading
 pub mod ShortPostings
+pub mod ShortRecords
+pub mod ShortFronts
 pub mod Windows
 pub mod Frames
 pub mod Steps

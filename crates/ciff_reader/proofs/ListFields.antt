@@ -1,5 +1,5 @@
 -- What a list's own fields say, with one more field, and what its postings say.
-use Rattle.std.proofs.Common.{◌≡◌, ◌≢◌, ◌↔◌, ℕ, ◌==◌, ◌%◌, ◌^◌, Bool, true, false, cond, IsTrue, ℤ, List, [], ◌∷◌, ◌++◌, Some, refl, sym, ap, subst, ◌∙◌, arith, inl, inr}
+use Rattle.std.proofs.Common.{◌≡◌, ◌≢◌, ℕ, Bool, false, cond, ℤ, List, [], ◌∷◌, ◌++◌, Some, sym, ap, subst, ◌∙◌, arith}
 use Rattle.std.specs.Prelude.{IsUtf8}
 use Rattle.std.specs.Borrow.{Bor}
 use Rattle.std.specs.Int.{w64, cast_signed}
@@ -8,7 +8,7 @@ use Rattle.std.proofs.lemmas.Bool.{false≢true, eq-eqb, ne_eqb}
 use Rattle.std.proofs.lemmas.List.{append-nil}
 use Rattle.ciff_wire.specs.Field.{Held, Entry, as_number, as_bytes, wire_of}
 use Rattle.rgb_base.specs.Building.{Building}
-use Rattle.ciff_format.specs.Fields.{list_table, posting_table, HasItsType, HasFields, HasText, bytes_or_none, bytes_where, each_at}
+use Rattle.ciff_format.specs.Fields.{list_table, posting_table, HasItsType, HasFields, HasText, bytes_or_none, each_at}
 use Rattle.ciff_format.specs.Messages.{PostingRows}
 use Rattle.ciff_format.specs.Growing.{LaterWins, TextsGrow, EachIsAdded}
 use Rattle.ciff_reader.specs.declared.gaps.Gaps.{Gaps}
@@ -19,10 +19,10 @@ use Rattle.ciff_reader.proofs.Slots.{int64_same, int64_other, text_same, text_ot
 
 -- ---- types and texts
 
-term_fits : (entry : Entry) → entry.number ≡ 1 → wire_of entry.held ≡ 2 → HasItsType list_table entry
+pub term_fits : (entry : Entry) → entry.number ≡ 1 → wire_of entry.held ≡ 2 → HasItsType list_table entry
 term_fits entry same wire = (λ e. wire, (λ e. absurd (omega arith), (λ e. absurd (omega arith), (λ e. wire, tt))))
 
-number_fits : (entry : Entry) → entry.number ≢ 1 → entry.number ≢ 4 → wire_of entry.held ≡ 0 → HasItsType list_table entry
+pub number_fits : (entry : Entry) → entry.number ≢ 1 → entry.number ≢ 4 → wire_of entry.held ≡ 0 → HasItsType list_table entry
 number_fits entry one four wire = (λ e. absurd (one (sym e)), (λ e. wire, (λ e. wire, (λ e. absurd (four (sym e)), tt))))
 
 posting_fits : (entry : Entry) → entry.number ≡ 4 → wire_of entry.held ≡ 2 → HasItsType list_table entry
@@ -31,10 +31,10 @@ posting_fits entry same wire = (λ e. wire, (λ e. absurd (omega arith), (λ e. 
 other_fits : (entry : Entry) → entry.number ≢ 1 → entry.number ≢ 2 → entry.number ≢ 3 → entry.number ≢ 4 → HasItsType list_table entry
 other_fits entry one two three four = (λ e. absurd (one (sym e)), (λ e. absurd (two (sym e)), (λ e. absurd (three (sym e)), (λ e. absurd (four (sym e)), tt))))
 
-no_text : (entry : Entry) → entry.number ≢ 1 → HasText list_table entry
+pub no_text : (entry : Entry) → entry.number ≢ 1 → HasText list_table entry
 no_text entry other = (λ e. absurd (other (sym e)), (λ e. tt, (λ e. tt, (λ e. tt, tt))))
 
-good_text : (entry : Entry) (bytes : List ℕ) → entry.held ≡ as_bytes bytes → ∥ IsUtf8 bytes ∥₁ → HasText list_table entry
+pub good_text : (entry : Entry) (bytes : List ℕ) → entry.held ≡ as_bytes bytes → ∥ IsUtf8 bytes ∥₁ → HasText list_table entry
 good_text entry bytes is good = (λ e. rw is good, (λ e. tt, (λ e. tt, (λ e. tt, tt))))
 
 bad_text : (entry : Entry) (bytes : List ℕ) → entry.number ≡ 1 → entry.held ≡ as_bytes bytes → ¬ ∥ IsUtf8 bytes ∥₁ → ¬ HasText list_table entry

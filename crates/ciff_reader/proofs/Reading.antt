@@ -1,25 +1,23 @@
 -- A list's message, read field after field.
-use Rattle.std.proofs.Common.{◌≡◌, inl, inr, ℕ, ◌+◌, ◌-◌, ◌<◌, ◌≤◌, true, ℤ, pos, List, [], ◌∷◌, ◌++◌, map, take, drop, refl, sym, ap, subst, ◌∙◌, Result, Ok, Err, OnOk, IfErr}
-use Rattle.std.specs.Prelude.{◌≤ℤ◌, ◌<ℤ◌, Option}
-use Rattle.std.specs.List.{AllZip}
+use Rattle.std.proofs.Common.{◌≡◌, inl, inr, ℕ, ◌+◌, true, pos, List, [], ◌∷◌, ◌++◌, map, take, drop, refl, sym, ap, subst, ◌∙◌, Result, Ok, Err, OnOk, IfErr}
+use Rattle.std.specs.Prelude.{◌≤ℤ◌, ◌<ℤ◌}
 use Rattle.ciff_format.specs.Accepted.{Front}
 use Rattle.rgb_base.specs.declared.parts.Posting.{Posting}
 use Rattle.std.proofs.lemmas.List.Elements.{All-nil}
-use Rattle.ciff_wire.specs.Field.{Held, Entry, SpellsField, IsMessage, as_bytes}
+use Rattle.ciff_wire.specs.Field.{Entry, SpellsField, IsMessage, as_bytes}
 use Rattle.ciff_wire.specs.Laws.{FieldIsAdded}
 use Rattle.rgb_base.specs.Building.{Building}
-use Rattle.ciff_format.specs.Fields.{list_table, posting_table, HasItsType, HasFields, HasText, bytes_or_none, number_or_zero}
+use Rattle.ciff_format.specs.Fields.{list_table, HasItsType, HasFields}
 use Rattle.ciff_format.specs.Messages.{PostingRows, HasListFields, sums_from, AreGaps}
-use Rattle.ciff_format.specs.Growing.{NothingHeld, LaterWins, EachIsAdded, TypesGrow, TextsGrow, WrongTypeIsBad, BadPostingIsBad, sum_after}
+use Rattle.ciff_format.specs.Growing.{LaterWins, EachIsAdded, TypesGrow, TextsGrow, WrongTypeIsBad, BadPostingIsBad, sum_after}
 use Rattle.ciff_format.specs.Refused.{IsListFault}
-use Rattle.std.specs.Int.{w64, cast_signed}
 use Rattle.ciff_reader.specs.declared.error.Refusal.{Refusal}
 use Rattle.ciff_reader.specs.declared.gaps.Gaps.{Gaps}
 use Rattle.ciff_reader.specs.declared.list.ListFields.{ListFields}
 use Rattle.ciff_reader.specs.Listing.{listing, without_postings, ChangesPostings, IsRefusal, IsBadField, SaysGaps, SaysList, SaysPostings, StartsWithPosting, ReadsList, AddsList}
 use Rattle.ciff_reader.specs.declared.posting.PostingFields.{PostingFields}
 use Rattle.ciff_reader.specs.Says.{SaysPosting}
-use Rattle.ciff_reader.proofs.Fronts.{fields_begin, field_added, wrong_type}
+use Rattle.ciff_reader.proofs.Fronts.{field_added, wrong_type}
 use Rattle.ciff_reader.proofs.ListFields.{takes_posting, one_posting}
 
 no_gaps : (documents : ℕ) → AreGaps documents []
@@ -30,34 +28,17 @@ no_gaps documents = record {
   below = All-nil (λ sum. sum <ℤ pos documents);
 }
 
-pub list_begins : NothingHeld → (message : List ℕ) (kept : ListFields) (gaps : Gaps) (building : Building)
-    → kept.term.now ≡ [] → kept.df ≡ pos 0 → kept.cf ≡ pos 0 → kept.are_texts ≡ true
-    → gaps.least ≡ 0 → gaps.document ≡ 0 → gaps.are_good ≡ true → gaps.are_few ≡ true → building.postings ≡ []
-    → ReadsList (take 0 message) kept gaps building
+pub gaps_begin : (gaps : Gaps) (building : Building) → gaps.least ≡ 0 → gaps.document ≡ 0 → gaps.are_good ≡ true → gaps.are_few ≡ true → building.postings ≡ [] → SaysGaps [] gaps building
 unfolding sums_from sum_after
-list_begins nothing message kept gaps building term df cf texts least document good few none = record {
-  fields = [];
-  rows = [];
-  read = fields_begin list_table message;
-  says = record {
-    term = λ was. term ∙ sym (ap bytes_or_none (nothing 1).0);
-    df = df ∙ sym (ap (λ (h : Option Held). cast_signed w64 (number_or_zero h)) (nothing 2).0);
-    cf = cf ∙ sym (ap (λ (h : Option Held). cast_signed w64 (number_or_zero h)) (nothing 3).0);
-    texts = (λ was. All-nil (HasText list_table), λ all. texts);
+gaps_begin gaps building least document good few none = record {
+  good = λ was. record {
+    good = no_gaps building.documents;
+    least = ap pos least;
+    document = ap pos document;
+    few = λ is. record { documents = ap (map (λ (p : Posting). pos p.doc)) none; frequencies = ap (map (λ (p : Posting). p.tf)) none };
+    many = λ isnt. absurd (isnt few);
   };
-  postings = record {
-    each = subst (λ (ms : List (List ℕ)). AllZip (HasFields posting_table) ms []) (sym (nothing 4).1) tt;
-    gaps = record {
-      good = λ was. record {
-        good = no_gaps building.documents;
-        least = ap pos least;
-        document = ap pos document;
-        few = λ is. record { documents = ap (map (λ (p : Posting). pos p.doc)) none; frequencies = ap (map (λ (p : Posting). p.tf)) none };
-        many = λ isnt. absurd (isnt few);
-      };
-      bad = λ isnt. absurd (isnt good);
-    };
-  };
+  bad = λ isnt. absurd (isnt good);
 }
 
 pub list_goes_on : FieldIsAdded → TypesGrow → (message rest : List ℕ) (at used : ℕ) (entry : Entry) (kept kept' : ListFields) (gaps gaps' : Gaps) (building building' : Building)

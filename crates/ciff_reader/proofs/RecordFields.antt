@@ -1,11 +1,11 @@
 -- What a record's fields say, with one more field.
-use Rattle.std.proofs.Common.{◌≡◌, ◌≢◌, ◌↔◌, ℕ, ◌%◌, ◌^◌, Bool, true, false, IsTrue, ℤ, List, [], ◌∷◌, ◌++◌, Some, refl, sym, ap, ◌∙◌, arith}
+use Rattle.std.proofs.Common.{◌≡◌, ◌≢◌, ℕ, ◌%◌, ◌^◌, false, ℤ, List, Some, sym, ap, ◌∙◌, arith}
 use Rattle.std.specs.Prelude.{IsUtf8}
 use Rattle.std.specs.Borrow.{Bor}
 use Rattle.std.specs.Int.{w32, cast_signed}
 use Rattle.std.proofs.lemmas.Bool.{false≢true}
 use Rattle.ciff_wire.specs.Field.{Entry, as_number, as_bytes, wire_of}
-use Rattle.ciff_format.specs.Fields.{record_table, HasItsType, HasText, bytes_or_none}
+use Rattle.ciff_format.specs.Fields.{record_table, HasItsType, HasText}
 use Rattle.ciff_format.specs.Growing.{LaterWins, TextsGrow}
 use Rattle.ciff_reader.specs.declared.record.RecordFields.{RecordFields}
 use Rattle.ciff_reader.specs.Says.{TakesField, SaysRecord}
@@ -13,19 +13,19 @@ use Rattle.ciff_reader.proofs.Slots.{int32_same, int32_other, text_same, text_ot
 
 -- ---- types and texts
 
-number_fits : (entry : Entry) → entry.number ≢ 2 → wire_of entry.held ≡ 0 → HasItsType record_table entry
+pub number_fits : (entry : Entry) → entry.number ≢ 2 → wire_of entry.held ≡ 0 → HasItsType record_table entry
 number_fits entry other wire = (λ e. wire, (λ e. absurd (other (sym e)), (λ e. wire, tt)))
 
-name_fits : (entry : Entry) → entry.number ≡ 2 → wire_of entry.held ≡ 2 → HasItsType record_table entry
+pub name_fits : (entry : Entry) → entry.number ≡ 2 → wire_of entry.held ≡ 2 → HasItsType record_table entry
 name_fits entry same wire = (λ e. absurd (omega arith), (λ e. wire, (λ e. absurd (omega arith), tt)))
 
 other_fits : (entry : Entry) → entry.number ≢ 1 → entry.number ≢ 2 → entry.number ≢ 3 → HasItsType record_table entry
 other_fits entry one two three = (λ e. absurd (one (sym e)), (λ e. absurd (two (sym e)), (λ e. absurd (three (sym e)), tt)))
 
-no_text : (entry : Entry) → entry.number ≢ 2 → HasText record_table entry
+pub no_text : (entry : Entry) → entry.number ≢ 2 → HasText record_table entry
 no_text entry other = (λ e. tt, (λ e. absurd (other (sym e)), (λ e. tt, tt)))
 
-good_text : (entry : Entry) (bytes : List ℕ) → entry.number ≡ 2 → entry.held ≡ as_bytes bytes → ∥ IsUtf8 bytes ∥₁ → HasText record_table entry
+pub good_text : (entry : Entry) (bytes : List ℕ) → entry.number ≡ 2 → entry.held ≡ as_bytes bytes → ∥ IsUtf8 bytes ∥₁ → HasText record_table entry
 good_text entry bytes same is good = (λ e. tt, (λ e. rw is good, (λ e. tt, tt)))
 
 bad_text : (entry : Entry) (bytes : List ℕ) → entry.number ≡ 2 → entry.held ≡ as_bytes bytes → ¬ ∥ IsUtf8 bytes ∥₁ → ¬ HasText record_table entry

@@ -1,19 +1,19 @@
 -- A posting that is spelt as most are: one byte of a tag and one of a length, and then the gap and the frequency, each behind one byte of a tag.
-use Rattle.std.proofs.Common.{◌≡◌, ◌≢◌, ◌⊎◌, inl, inr, ℕ, suc, ◌+◌, ◌-◌, ◌*◌, ◌/◌, ◌%◌, ◌^◌, ◌<◌, ◌≤◌, List, [], ◌∷◌, length, take, drop, get_or, refl, sym, ap, subst, ◌∙◌, arith}
+use Rattle.std.proofs.Common.{◌≡◌, inl, inr, ℕ, suc, ◌+◌, ◌-◌, ◌*◌, ◌/◌, ◌%◌, ◌^◌, ◌<◌, ◌≤◌, List, [], ◌∷◌, length, take, drop, get_or, refl, sym, ap, subst, ◌∙◌, arith}
 use Rattle.std.specs.Int.{w32, cast_signed}
 use Rattle.std.proofs.Math.Seq.{take-add}
 use Rattle.std.proofs.lemmas.Bool.{cases_lt}
 use Rattle.std.proofs.lemmas.List.{append-nil, length-take, length-drop, get_or-drop}
 use Rattle.std.proofs.lemmas.List.Elements.{All-nil, All-cons}
 use Rattle.ciff_wire.specs.Varint.{sum_of, sum_from, Spells, Reads}
-use Rattle.ciff_wire.specs.Field.{Entry, as_number, SpellsField}
+use Rattle.ciff_wire.specs.Field.{Entry, as_number, as_bytes, SpellsField}
 use Rattle.ciff_format.specs.Fields.{posting_table, HasItsType, HasFields, held_at}
 use Rattle.ciff_reader.specs.declared.posting.PostingFields.{PostingFields}
 use Rattle.ciff_reader.specs.Says.{SaysPosting}
 use Rattle.ciff_reader.specs.Listing.{StartsWithPosting}
 
 -- a byte without the top bit spells itself
-spells_one : (b : ℕ) → b < 128 → Spells (b ∷ []) b
+pub spells_one : (b : ℕ) → b < 128 → Spells (b ∷ []) b
 unfolding sum_of sum_from
 spells_one b small = record {
   spelling = record {
@@ -83,24 +83,47 @@ reads_three (a ∷ b ∷ h ∷ bs) rest last value behind behind' some low on mi
 
 -- ---- a number behind its tag
 
-pub number_spelt : (bytes : List ℕ) (tag value used : ℕ) → (tag ≡ 8) ⊎ (tag ≡ 16) → 0 < length bytes → get_or bytes 0 0 ≡ tag → Reads (drop 1 bytes) value used
+pub number_spelt : (bytes : List ℕ) (tag value used : ℕ) → 0 < tag → tag < 128 → tag % 8 ≡ 0 → 0 < length bytes → get_or bytes 0 0 ≡ tag → Reads (drop 1 bytes) value used
     → SpellsField (take (1 + used) bytes) (record { number = tag / 8; held = as_number value })
-number_spelt [] tag value used which some is reads = absurd (omega arith)
-number_spelt (b ∷ rest) tag value used which some is reads =
+number_spelt [] tag value used above below which some is reads = absurd (omega arith)
+number_spelt (b ∷ rest) tag value used above below which some is reads =
     let more : 1 + used ≡ suc used = omega arith in
     let whole : b ≡ tag / 8 * 8 + 0 = omega (arith, which, is) in
     record {
-      number = (omega (arith, which), omega (arith, which));
+      number = (omega (arith, above, which), omega (arith, below));
       tag = b ∷ [];
       content = take used rest;
-      spells_tag = subst (Spells (b ∷ [])) whole (spells_one b (omega (arith, which, is)));
+      spells_tag = subst (Spells (b ∷ [])) whole (spells_one b (omega (arith, below, is)));
       spells_content = reads.spells;
       parts = rw more refl;
     }
 
+-- ---- a text of fewer than 128 bytes behind its tag
+
+abbrev pub text_entry : ℕ → List ℕ → Entry
+text_entry number text = record { number = number; held = as_bytes text }
+
+pub text_spelt : (bytes text : List ℕ) (tag : ℕ) → 2 < tag → tag < 128 → tag % 8 ≡ 2 → 2 ≤ length bytes → get_or bytes 0 0 ≡ tag → get_or bytes 1 0 < 128 → get_or bytes 1 0 ≤ length (drop 2 bytes)
+    → text ≡ take (get_or bytes 1 0) (drop 2 bytes)
+    → SpellsField (take (2 + get_or bytes 1 0) bytes) (text_entry (tag / 8) text)
+text_spelt [] text tag above below which some first small within is = absurd (omega (arith, some))
+text_spelt (t ∷ []) text tag above below which some first small within is = absurd (omega (arith, some))
+text_spelt (t ∷ size ∷ rest) text tag above below which some first small within is =
+    let more : 2 + size ≡ suc (suc size) = omega arith in
+    let count : size ≡ length text = omega (arith, ap length is, length-take size rest, within) in
+    let whole : t ≡ tag / 8 * 8 + 2 = omega (arith, which, first) in
+    record {
+      number = (omega (arith, above, which), omega (arith, below));
+      tag = t ∷ [];
+      content = size ∷ text;
+      spells_tag = subst (Spells (t ∷ [])) whole (spells_one t (omega (arith, below, first)));
+      spells_content = (size ∷ [], subst (Spells (size ∷ [])) count (spells_one size small), refl);
+      parts = rw more (ap (λ (bs : List ℕ). t ∷ size ∷ bs) (sym is));
+    }
+
 -- ---- a posting
 
-abbrev number_entry : ℕ → ℕ → Entry
+abbrev pub number_entry : ℕ → ℕ → Entry
 number_entry number value = record { number = number; held = as_number value }
 
 abbrev row_of : ℕ → ℕ → List Entry
@@ -160,9 +183,9 @@ pub record Begins (low middle high value len : ℕ) : Type 0 where
   pub one : low < 128 → (value ≡ low) × (len ≡ 1)
   pub two : 128 ≤ low → middle < 128 → (value ≡ low - 128 + middle * 128) × (len ≡ 2)
   pub three : 128 ≤ low → 128 ≤ middle → high < 128 → (value ≡ low - 128 + middle * 128 - 16384 + high * 16384) × (len ≡ 3)
-  pub more : 128 ≤ low → 128 ≤ middle → 128 ≤ high → len ≡ 4
+  pub more : 128 ≤ low → 128 ≤ middle → 128 ≤ high → 256 ≤ len
 
-begins_read : (text : List ℕ) (value len : ℕ) → 3 ≤ length text → get_or text 0 0 < 256 → get_or text 1 0 < 256 → Begins (get_or text 0 0) (get_or text 1 0) (get_or text 2 0) value len → len ≢ 4 → Reads text value len
+begins_read : (text : List ℕ) (value len : ℕ) → 3 ≤ length text → get_or text 0 0 < 256 → get_or text 1 0 < 256 → Begins (get_or text 0 0) (get_or text 1 0) (get_or text 2 0) value len → len < 256 → Reads text value len
 begins_read [] value len some low middle begins ends = absurd (omega arith)
 begins_read (a ∷ []) value len some low middle begins ends = absurd (omega arith)
 begins_read (a ∷ b ∷ []) value len some low middle begins ends = absurd (omega arith)
@@ -175,18 +198,18 @@ begins_read (a ∷ b ∷ h ∷ rest) value len some low middle begins ends =
         | inr on' ↦ elim (cases_lt h 128) [
           | inl end ↦ let is = begins.three on on' end in
               subst (Reads text value) (sym is.1) (reads_three text (b ∷ h ∷ rest) (h ∷ rest) value refl refl (omega arith) low on middle on' end is.0)
-          | inr on'' ↦ absurd (ends (begins.more on on' on''))
+          | inr on'' ↦ absurd (omega (arith, ends, begins.more on on' on''))
         ]
       ]
     ]
 
-few_bytes : (low middle high value len : ℕ) → Begins low middle high value len → len ≤ 4
-few_bytes low middle high value len begins =
+few_bytes : (low middle high value len : ℕ) → Begins low middle high value len → len < 256 → len ≤ 3
+few_bytes low middle high value len begins ends =
     elim (cases_lt low 128) [
       | inl end ↦ omega (arith, (begins.one end).1)
       | inr on ↦ elim (cases_lt middle 128) [
         | inl end ↦ omega (arith, (begins.two on end).1)
-        | inr on' ↦ elim (cases_lt high 128) [ inl end ↦ omega (arith, (begins.three on on' end).1) | inr on'' ↦ omega (arith, begins.more on on' on'') ]
+        | inr on' ↦ elim (cases_lt high 128) [ inl end ↦ omega (arith, (begins.three on on' end).1) | inr on'' ↦ absurd (omega (arith, ends, begins.more on on' on'')) ]
       ]
     ]
 
@@ -194,7 +217,7 @@ byte_behind : (bytes : List ℕ) (n k place : ℕ) → place ≡ 2 + (n + k) →
 byte_behind bytes n k place is = get_or-drop n (drop 2 bytes) k 0 ∙ get_or-drop 2 bytes (n + k) 0 ∙ ap (λ (i : ℕ). get_or bytes i 0) (sym is)
 
 pub eight_start : (bytes : List ℕ) (gap len size tf : ℕ) (kept : PostingFields) → 8 ≤ length bytes → get_or bytes 3 0 < 256 → get_or bytes 4 0 < 256
-    → get_or bytes 0 0 ≡ 34 → get_or bytes 1 0 ≡ size → get_or bytes 2 0 ≡ 8 → Begins (get_or bytes 3 0) (get_or bytes 4 0) (get_or bytes 5 0) gap len → size ≡ len + 3 → len ≢ 4
+    → get_or bytes 0 0 ≡ 34 → get_or bytes 1 0 ≡ size → get_or bytes 2 0 ≡ 8 → Begins (get_or bytes 3 0) (get_or bytes 4 0) (get_or bytes 5 0) gap len → size ≡ len + 3 → size < 256
     → get_or bytes size 0 ≡ 16 → get_or bytes (size + 1) 0 ≡ tf → tf < 128
     → kept.gap ≡ cast_signed w32 (gap % 2 ^ 32) → kept.tf ≡ cast_signed w32 (tf % 2 ^ 32)
     → StartsWithPosting bytes kept (size + 2)
@@ -205,11 +228,11 @@ eight_start (t ∷ s ∷ f ∷ rest) gap len size tf kept some low middle tag si
     let bytes = t ∷ s ∷ f ∷ rest in
     let content = f ∷ rest in
     let behind = drop (1 + len) content in
-    let few : len ≤ 3 = omega (arith, few_bytes (get_or rest 0 0) (get_or rest 1 0) (get_or rest 2 0) gap len begins, ends) in
+    let few : len ≤ 3 = few_bytes (get_or rest 0 0) (get_or rest 1 0) (get_or rest 2 0) gap len begins (omega (arith, size_of, ends)) in
     let long : length behind ≡ length content - (1 + len) = length-drop (1 + len) content in
     let last : tf ≡ get_or (drop 1 behind) 0 0 = sym (get_or-drop 1 behind 0 0 ∙ byte_behind bytes (1 + len) 1 (size + 1) (omega (arith, size_of)) ∙ tf_is) in
-    let one = number_spelt content 8 gap len (inl refl) (omega arith) first (begins_read rest gap len (omega (arith, some)) low middle begins ends) in
-    let two = number_spelt behind 16 tf 1 (inr refl) (omega (arith, long, few, some)) (byte_behind bytes (1 + len) 0 size (omega (arith, size_of)) ∙ second)
+    let one = number_spelt content 8 gap len (omega arith) (omega arith) refl (omega arith) first (begins_read rest gap len (omega (arith, some)) low middle begins (omega (arith, size_of, ends))) in
+    let two = number_spelt behind 16 tf 1 (omega arith) (omega arith) refl (omega (arith, long, few, some)) (byte_behind bytes (1 + len) 0 size (omega (arith, size_of)) ∙ second)
     (reads_one (drop 1 behind) tf (omega (arith, long, few, some, length-drop 1 behind)) last tf_small) in
     let used : 2 + (1 + len + 2) ≡ size + 2 = omega (arith, size_of) in
     subst (StartsWithPosting bytes kept) used

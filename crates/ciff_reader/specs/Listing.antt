@@ -107,6 +107,13 @@ pub record ReadsList (message : List ℕ) (kept : ListFields) (gaps : Gaps) (bui
   pub says : SaysList fields kept
   pub postings : SaysPostings fields rows gaps building
 
+-- the same of a front of the message that holds no posting
+pub record ReadsFront (front : List ℕ) (kept : ListFields) : Type 0 where
+  pub fields : List Entry
+  pub read : HasFields list_table front fields
+  pub says : SaysList fields kept
+  pub none : each_at 4 fields ≡ []
+
 -- a good list's message, and the list that it says stands behind the others
 pub record AddsList (message : List ℕ) (before after : Building) : Type 0 where
   pub fields : List Entry

@@ -9,6 +9,7 @@ ghost use Rattle.ciff_reader.specs.Listing.{ChangesPostings, ReadsList, SaysGaps
 
 use crate::content::bytes_in;
 use crate::posting::{PostingFields, read_posting};
+use crate::run::read_run;
 use crate::short::short_posting;
 use ciff_format::laws::{fields_grow, gaps_grow};
 use ciff_wire::Field;
@@ -53,13 +54,14 @@ impl Gaps {
         Ok(Some(self.with_posting(posting, builder)?))
     }
 
-    /// The short postings one after another from a place of the list's message on, and the place behind
-    /// them.
+    /// The short postings one after another from a place of the list's message on, and the place
+    /// behind them. `room` holds postings until they are pushed together.
     #[inline(never)]
     pub(crate) fn with_short_postings(
         self,
         message: &[u8],
         start: usize,
+        room: &mut [Posting],
         builder: &mut IndexBuilder,
     ) -> Result<(Gaps, usize), OutOfMemory>
         requires { start ≤ length message.now }
@@ -75,11 +77,40 @@ impl Gaps {
         let mut gaps = self;
         let mut at = start;
         'postings: loop {
-            let Some((posting, used)) = short_posting(&message[at..]) else {
-                return Ok((gaps, at));
+            let (further, behind) = gaps.with_run(message, at, room, builder)?;
+            let Some((posting, used)) = short_posting(&message[behind..]) else {
+                return Ok((further, behind));
             };
-            gaps = gaps.with_posting(posting, builder)?;
-            at += used;
+            gaps = further.with_posting(posting, builder)?;
+            at = behind + used;
+        }
+    }
+
+    /// Short postings in a row, which are pushed together. There are none where one of them has to
+    /// be looked at by itself.
+    fn with_run(
+        self,
+        message: &[u8],
+        start: usize,
+        room: &mut [Posting],
+        builder: &mut IndexBuilder,
+    ) -> Result<(Gaps, usize), OutOfMemory>
+        requires { start ≤ length message.now }
+        ensures same { ChangesPostings builder.old builder.new }
+        ensures behind { IfOk result (λ t. start ≤ t.1) }
+        ensures within { IfOk result (λ t. t.1 ≤ length message.now) }
+        ensures read { IfOk result (λ t. (kept : ListFields)
+            → ReadsList (take start message.now) kept self builder.old
+            → ReadsList (take t.1 message.now) kept t.0 builder.new) }
+    {
+        if !self.are_good || !self.are_few {
+            return Ok((self, start));
+        }
+        let run = read_run(message, start, self, builder.documents(), room);
+        match builder.push_postings(&room[..run.count]) {
+            Ok(()) => Ok((run.gaps, run.end)),
+            Err(BuildError::OutOfMemory) => Err(OutOfMemory),
+            Err(_) => Ok((self, start)),
         }
     }
 

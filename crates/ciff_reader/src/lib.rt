@@ -5,6 +5,7 @@ mod content;
 mod documents;
 mod end;
 mod error;
+mod front;
 mod gaps;
 mod header;
 mod heading;
@@ -15,7 +16,9 @@ mod posting;
 mod read;
 mod record;
 mod records;
+mod run;
 mod short;
+mod short_record;
 mod waiting;
 mod window;
 

@@ -8,12 +8,13 @@ ghost use Rattle.ciff_reader.specs.Listing.{listing, without_postings, IsRefusal
 
 use crate::content::{bytes_in, number_in, text_of};
 use crate::error::Refusal;
+use crate::front::read_front;
 use crate::gaps::Gaps;
 use ciff_format::Cause;
 use ciff_format::laws::fields_grow;
 use ciff_wire::laws::{field_after_field, message_is_one};
 use ciff_wire::{Field, as_i64, next_field};
-use rgb_base::{BuildError, IndexBuilder};
+use rgb_base::{BuildError, IndexBuilder, Posting};
 
 /// What the fields of a list's message say so far, without its postings.
 #[derive(Clone, Copy)]
@@ -96,8 +97,12 @@ impl<'a> ListFields<'a> {
 }
 
 /// Reads a list's message, and closes the list that it says behind the others. What a refusal leaves
-/// in the open list is free.
-pub(crate) fn read_list(message: &[u8], builder: &mut IndexBuilder) -> Result<(), Refusal>
+/// in the open list is free. `room` holds postings until they are pushed together.
+pub(crate) fn read_list(
+    message: &[u8],
+    room: &mut [Posting],
+    builder: &mut IndexBuilder,
+) -> Result<(), Refusal>
     requires none_open { builder.old.postings ≡ [] }
     requires no_record { builder.old.records ≡ [] }
     requires few { length builder.old.lists + 1 < 2 ^ 31 }
@@ -108,21 +113,17 @@ pub(crate) fn read_list(message: &[u8], builder: &mut IndexBuilder) -> Result<()
     fields_grow();
     field_after_field();
     message_is_one();
-    let mut kept = ListFields {
-        term: "",
-        df: 0,
-        cf: 0,
-        are_texts: true,
-    };
+    let (front, behind_front) = read_front(message);
+    let mut kept = front;
     let mut gaps = Gaps {
         least: 0,
         document: 0,
         are_good: true,
         are_few: true,
     };
-    let mut at = 0;
+    let mut at = behind_front;
     'fields: loop {
-        let Ok((gaps_so_far, behind)) = gaps.with_short_postings(message, at, builder) else {
+        let Ok((gaps_so_far, behind)) = gaps.with_short_postings(message, at, room, builder) else {
             return Err(Refusal::OutOfMemory);
         };
         let Ok(next) = next_field(&message[behind..]) else {

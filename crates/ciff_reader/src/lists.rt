@@ -10,12 +10,16 @@ use crate::list::read_list;
 use crate::message::next_message;
 use crate::window::Window;
 use ciff_format::laws::messages_grow;
-use rgb_base::IndexBuilder;
+use rgb_base::{IndexBuilder, Posting};
 use rgb_host::Host;
+
+/// How many postings at most are pushed together.
+const TOGETHER: usize = 256;
 
 /// Reads the list that comes next, and closes it behind the others.
 fn take_list<H: Host>(
     window: &mut Window,
+    room: &mut [Posting],
     builder: &mut IndexBuilder,
     host: &mut H,
     name: &str,
@@ -39,7 +43,7 @@ fn take_list<H: Host>(
         Err(error) => return Err(error),
     };
     let end = span.from + span.size;
-    match read_list(&window.bytes()[span.from..end], builder) {
+    match read_list(&window.bytes()[span.from..end], room, builder) {
         Ok(()) => {}
         Err(Refusal::Cause(cause)) => return Err(ReadError::Malformed { place, cause }),
         Err(Refusal::OutOfMemory) => return Err(ReadError::OutOfMemory),
@@ -72,8 +76,9 @@ pub(crate) fn read_lists<H: Host>(
         ExplainsWhere (AtGood (H.seen host.old) name.now window.old (listing count builder.old))
         Refused error name.now (H.seen host.old) (H.seen host.new)) }
 {
+    let mut room = [Posting { doc: 0, tf: 0 }; TOGETHER];
     for list in 0..count {
-        match take_list(window, builder, host, name) {
+        match take_list(window, &mut room, builder, host, name) {
             Ok(()) => {}
             Err(error) => return Err(error),
         }

@@ -4,6 +4,7 @@ ghost use Rattle.ciff_format.specs.Fields.{record_table};
 ghost use Rattle.ciff_reader.specs.Says.{TakesField, IsReadAs, SaysRecord};
 
 use crate::content::{bytes_in, number_in, text_of};
+use crate::short_record::short_record;
 use ciff_format::laws::fields_grow;
 use ciff_wire::laws::{field_after_field, message_is_one};
 use ciff_wire::{Field, as_i32, next_field};
@@ -50,6 +51,16 @@ impl<'a> RecordFields<'a> {
 
 /// What a record's message says, or nothing where its fields can't be read or one has a wrong type.
 pub(crate) fn read_record<'a>(message: &'a [u8]) -> Option<RecordFields<'a>>
+    ensures read { IsReadAs record_table SaysRecord message.now result }
+{
+    match short_record(message) {
+        Some(kept) => Some(kept),
+        None => read_fields(message),
+    }
+}
+
+/// What any record's message says, field by field.
+fn read_fields<'a>(message: &'a [u8]) -> Option<RecordFields<'a>>
     ensures read { IsReadAs record_table SaysRecord message.now result }
 {
     fields_grow();

@@ -1,9 +1,11 @@
-//! Reading a posting where it stands in its list's message, where it is spelt as most are.
-ghost use Rattle.std.specs.Prelude.{◌≡◌, ◌⊎◌, ◌+◌, ◌-◌, ◌*◌, ◌/◌, ◌<◌, ◌≤◌, length, take, IfSome};
+//! Reading a posting where it stands in its list's message, where it is spelt as most are; and
+//! fields of few bytes.
+ghost use Rattle.std.specs.Prelude.{◌≡◌, ◌+◌, ◌-◌, ◌*◌, ◌/◌, ◌%◌, ◌<◌, ◌≤◌, length, take, IfSome, IsUtf8};
 ghost use Rattle.ciff_wire.specs.Varint.{Reads};
-ghost use Rattle.ciff_wire.specs.Field.{as_number, SpellsField};
+ghost use Rattle.ciff_wire.specs.Field.{as_bytes, as_number, SpellsField};
 ghost use Rattle.ciff_reader.specs.Listing.{StartsWithPosting};
 
+use crate::content::text_of;
 use crate::posting::PostingFields;
 use ciff_wire::as_i32;
 
@@ -31,7 +33,7 @@ pub(crate) fn short_posting(bytes: &[u8]) -> Option<(PostingFields, usize)>
 /// A short posting within eight bytes whose frequency takes one. Gaps of one, two and three bytes come
 /// mixed, so no branch hangs on how many a gap has.
 #[inline]
-fn posting_in_eight(bytes: &[u8]) -> Option<(PostingFields, usize)>
+pub(crate) fn posting_in_eight(bytes: &[u8]) -> Option<(PostingFields, usize)>
     ensures posting { IfSome result (λ t. StartsWithPosting bytes.now t.0 t.1) }
 {
     let [POSTING, size, GAP, low, middle, high, _, _, ..] = bytes else {
@@ -39,7 +41,7 @@ fn posting_in_eight(bytes: &[u8]) -> Option<(PostingFields, usize)>
     };
     let (gap, len) = gap_of(*low, *middle, *high);
     let end = usize::from(*size);
-    if end != len + 3 || len == 4 {
+    if end != len + 3 {
         return None;
     }
     let tf = bytes[end + 1];
@@ -53,7 +55,8 @@ fn posting_in_eight(bytes: &[u8]) -> Option<(PostingFields, usize)>
     Some((posting, end + 2))
 }
 
-/// The varint that these bytes begin with, and how many of them it takes, 4 where it has more than three.
+/// The varint that these bytes begin with, and how many of them it takes: 256 or more where it has
+/// more than three, which no length of one byte says.
 #[inline]
 fn gap_of(low: u8, middle: u8, high: u8) -> (u32, usize)
     ensures one { low < 128 → (result.0 ≡ low) × (result.1 ≡ 1) }
@@ -61,7 +64,8 @@ fn gap_of(low: u8, middle: u8, high: u8) -> (u32, usize)
         → (result.0 ≡ low - 128 + middle * 128) × (result.1 ≡ 2) }
     ensures three { 128 ≤ low → 128 ≤ middle → high < 128
         → (result.0 ≡ low - 128 + middle * 128 - 16384 + high * 16384) × (result.1 ≡ 3) }
-    ensures more { 128 ≤ low → 128 ≤ middle → 128 ≤ high → result.1 ≡ 4 }
+    ensures more { 128 ≤ low → 128 ≤ middle → 128 ≤ high → 256 ≤ result.1 }
+    ensures most { result.1 ≤ 259 }
 {
     let (low, middle, high) = (u32::from(low), u32::from(middle), u32::from(high));
     let second = low / 128;
@@ -70,7 +74,7 @@ fn gap_of(low: u8, middle: u8, high: u8) -> (u32, usize)
     let value = low % 128
         + where_set(second, middle % 128) * 128
         + where_set(third, high % 128) * 16384;
-    (value, (1 + second + third + fourth) as usize)
+    (value, (1 + second + third + fourth * 256) as usize)
 }
 
 /// The number where the bit is 1, and 0 where it is 0.
@@ -106,8 +110,10 @@ fn posting_by_parts(bytes: &[u8]) -> Option<(PostingFields, usize)>
 
 /// The number at the front whose field has this tag, and how many bytes the field takes.
 #[inline]
-fn number_behind(tag: u8, bytes: &[u8]) -> Option<(u64, usize)>
-    requires { (tag ≡ 8) ⊎ (tag ≡ 16) }
+pub(crate) fn number_behind(tag: u8, bytes: &[u8]) -> Option<(u64, usize)>
+    requires some { 0 < tag }
+    requires small { tag < 128 }
+    requires number { tag % 8 ≡ 0 }
     ensures within { IfSome result (λ t. t.1 ≤ length bytes.now) }
     ensures most { IfSome result (λ t. t.1 ≤ 4) }
     ensures field { IfSome result (λ t.
@@ -117,6 +123,31 @@ fn number_behind(tag: u8, bytes: &[u8]) -> Option<(u64, usize)>
         [first, rest @ ..] if *first == tag => {
             let (value, used) = short_varint(rest)?;
             Some((u64::from(value), 1 + used))
+        }
+        _ => None,
+    }
+}
+
+/// The text at the front, of fewer than 128 bytes, whose field has this tag, and how many bytes the
+/// field takes.
+#[inline]
+pub(crate) fn text_behind<'a>(tag: u8, bytes: &'a [u8]) -> Option<(&'a str, usize)>
+    requires some { 2 < tag }
+    requires small { tag < 128 }
+    requires text { tag % 8 ≡ 2 }
+    ensures within { IfSome result (λ t. t.1 ≤ length bytes.now) }
+    ensures text { IfSome result (λ t. ∥ IsUtf8 t.0.now ∥₁) }
+    ensures field { IfSome result (λ t. SpellsField (take t.1 bytes.now)
+        (record { number = tag / 8; held = as_bytes t.0.now })) }
+{
+    match bytes {
+        [first, size, rest @ ..]
+            if *first == tag && *size < 128 && usize::from(*size) <= rest.len() => {
+            let len = usize::from(*size);
+            match text_of(&rest[..len]) {
+                Some(text) => Some((text, 2 + len)),
+                None => None,
+            }
         }
         _ => None,
     }

@@ -7,13 +7,14 @@ use Rattle.ciff_reader.specs.declared.gaps.Gaps.{Gaps}
 use Rattle.rgb_base.specs.Building.{Building}
 use Rattle.ciff_reader.specs.Listing.{ReadsList, TakesPosting}
 use Rattle.ciff_reader.proofs.Fronts.{used_some, faulty, wrong_type, whole}
-use Rattle.ciff_reader.proofs.Reading.{list_begins, list_goes_on, bad_field, changes_twice, closed_ok, closed_fault}
+use Rattle.ciff_reader.proofs.Reading.{gaps_begin, list_goes_on, bad_field, changes_twice, closed_ok, closed_fault}
+use Rattle.ciff_reader.proofs.ShortFronts.{list_goes_on_behind}
 use Rattle.ciff_reader.proofs.list.read_list.Goals as goal
 
 pub fields-init : goal.fields-init
 fields-init c = record {
-  within = omega arith;
-  read = list_begins c.fields_grow.ensures.nothing c.args.message.now _ _ c.args.builder.now refl refl refl refl refl refl refl refl c.requires.none_open;
+  within = c.read_front-behind_front.ensures.within;
+  read = list_goes_on_behind _ _ _ c.args.builder.now c.read_front-behind_front.ensures.read (gaps_begin _ c.args.builder.now refl refl refl refl c.requires.none_open);
   same = refl;
   no_record = c.requires.no_record;
   few = c.requires.few;

@@ -23,6 +23,6 @@ returns c =
       more = c.gap_of-gap.ensures.more;
     } in
     record {
-      posting = eight_start bytes gap len size tf _ c.in-34.len_at_least low middle (omega arith) (sym c.from-end.ensures) (omega arith) begins c.if-end-len.false c.if-len-eq4.false c.if-bytes-end-ne-FREQUENCY.false refl c.if-tf-ge128.false
+      posting = eight_start bytes gap len size tf _ c.in-34.len_at_least low middle (omega arith) (sym c.from-end.ensures) (omega arith) begins c.if-end-len.false (omega (arith, c.type_inv.bytes 1, c.from-end.ensures)) c.if-bytes-end-ne-FREQUENCY.false refl c.if-tf-ge128.false
           (to_z-of_z w32 c.as_i32.result gap_fits ∙ c.as_i32.ensures.same ∙ ap (λ (n : ℕ). cast_signed w32 (n % 2 ^ 32)) c.from.ensures) (to_z-of_z w32 c.as_i32-2.result tf_fits ∙ c.as_i32-2.ensures.same ∙ ap (λ (n : ℕ). cast_signed w32 (n % 2 ^ 32)) c.from-2.ensures);
     }

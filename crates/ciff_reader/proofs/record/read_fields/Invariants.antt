@@ -1,7 +1,7 @@
 use Rattle.std.proofs.Common.{◌-◌, ◌≤◌, length, take}
 use Rattle.ciff_format.specs.Fields.{record_table}
 use Rattle.ciff_reader.specs.Says.{ReadAs, SaysRecord}
-use Rattle.ciff_reader.proofs.record.read_record.Given as goal
+use Rattle.ciff_reader.proofs.record.read_fields.Given as goal
 
 abbrev pub invariant-fields : goal.invariant-fields
 invariant-fields l = record {
