@@ -4,3 +4,6 @@ pub mod Lists
 pub mod Indexes
 pub mod Orders
 pub mod Sorting
+pub mod Pieces
+pub mod Stored
+pub mod Searching

@@ -1,9 +1,11 @@
 //! All lists of an index with the new numbers of the documents.
-ghost use Rattle.std.specs.Prelude.{◌≡◌, ◌<◌, ◌≤◌, length, slice_range, IfOk};
+ghost use Rattle.std.specs.Prelude.{◌≡◌, ℕ, ◌<◌, ◌≤◌, List, length, slice_range, IfOk};
 ghost use Rattle.std.specs.Thread.{IsSync};
 ghost use Rattle.rgb_base.specs.Parts.{IsIndex, posting_count};
+ghost use Rattle.rgb_base.specs.Table.{AreEnds};
 ghost use Rattle.postings_rewrite.specs.Renumbering.{IsRenumbered};
 ghost use Rattle.postings_rewrite.specs.Tables.{IsTableRenumbered};
+ghost use Rattle.postings_rewrite.specs.Pieces.{AreListsRenumbered};
 
 use crate::postings::renumber_list;
 use rayon::join_mut;
@@ -30,10 +32,34 @@ pub fn renumber<R: Threads + Sync>(
     index.is_sound();
     by.is_sound();
     numbers_undo_the_order();
+    let table = renumbered_table(rt, alloc, index, by, workers)?;
+    index.with_table(alloc, table, by)
+}
+
+/// The postings of all lists with the new numbers, one list behind another as in the index.
+pub(crate) fn renumbered_table<R: Threads + Sync>(
+    rt: &R,
+    alloc: Global,
+    index: &Index,
+    by: &Permutation,
+    workers: u32,
+) -> Result<Vec<Posting>, OutOfMemory>
+    requires len { length by.now ≡ length index.now.documents }
+    requires some { 0 < workers }
+    requires most { workers ≤ 64 }
+    ensures ok { IfOk result
+        (λ table. IsTableRenumbered by.now index.now.lists table.items) }
+    ensures stored { IfOk result
+        (λ table. (ends : List ℕ) → AreEnds index.now.lists ends
+        → AreListsRenumbered index.now by.now ends table.items) }
+{
+    index.is_sound();
+    by.is_sound();
+    numbers_undo_the_order();
     let none = Posting { doc: 0, tf: 0 };
     let mut table = vec![in alloc; none; index.total_postings() as usize]?;
     renumber_lists(rt, index, by, 0, index.lists(), &mut table, workers);
-    index.with_table(alloc, table, by)
+    Ok(table)
 }
 
 /// Fills the table with the postings of the lists from one on and before another, renumbered, by so
