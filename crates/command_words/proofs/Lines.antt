@@ -1,9 +1,9 @@
 -- What the operands and values of a line say of the command that it spells.
-use Rattle.std.proofs.Common.{◌≡◌, ◌⊎◌, ◌↔◌, ℕ, Bool, true, false, IsTrue, List, [], ◌∷◌, Option, Some, None, slice_get, sym, ap, subst, ◌∙◌, refl, inl, inr, if◌then◌else◌}
+use Rattle.std.proofs.Common.{◌≡◌, ◌⊎◌, ◌↔◌, ℕ, Bool, true, false, IsTrue, List, [], ◌∷◌, Option, Some, None, slice_get, get_or, arith, sym, ap, subst, ◌∙◌, refl, inl, inr, if◌then◌else◌}
 use Rattle.std.proofs.lemmas.Option.{same_Some, none-some}
-use Rattle.command_words.specs.Line.{Word, Part, OptionRow, Finds, OfParts, operands_of, values_of, ComesTo, ComeTo, Follow}
+use Rattle.command_words.specs.Line.{Word, Part, OptionRow, Finds, Means, OfParts, operands_of, values_of, ComesTo, ComeTo, Follow}
 use Rattle.command_words.specs.declared.reordering.Reordering.{Reordering}
-use Rattle.command_words.specs.Command.{Command, copy, report, reorder, copy_row, report_row, reorder_row, workers_option, depth_option, rounds_option, leaf_option, step_option, min_df_option, start_option, reordering_options, numbers_of, IsCommand, SpellsOnly, Answers}
+use Rattle.command_words.specs.Command.{Command, copy, report, reorder, make, copy_row, report_row, reorder_row, make_row, number_option, document_counts, workers_option, depth_option, rounds_option, leaf_option, step_option, min_df_option, start_option, reordering_options, numbers_of, IsCommand, SpellsOnly, Answers}
 use Rattle.command_words.proofs.Parting.{same_behind, two_operands, one_operand_name}
 
 -- the operand at a place is this
@@ -14,6 +14,12 @@ Operand words place name = OfParts words (λ parts. Some name ≡ slice_get (ope
 abbrev Workers : List Word → Option ℕ → Type 0
 Workers words found = OfParts words (λ parts. Finds found (ComesTo workers_option (values_of workers_option.name parts)))
 
+-- two words of one length that begin otherwise
+copy_is_not_make : (words behind : List Word) → copy_row.name ∷ words ≡ make_row.name ∷ behind → ⊥
+copy_is_not_make words behind e =
+    let first : 99 ≡ 109 = ap (λ (ws : List Word). get_or (get_or ws 0 []) 0 0) e in
+    omega (arith, first)
+
 only_copy : (words : List Word) (input output : Word) → Operand words 0 input → Operand words 1 output
     → (other : Command) → IsCommand (copy_row.name ∷ words) other → other ≡ copy input output
 only_copy words input output first second (copy i o) line =
@@ -23,6 +29,7 @@ only_copy words input output first second (copy i o) line =
     ap (λ n. copy n o) (sym one) ∙ ap (copy input) (sym two)
 only_copy words input output first second (report i w) line = let e : copy_row.name ∷ words ≡ report_row.name ∷ line.behind = line.named in absurd (cc)
 only_copy words input output first second (reorder i o k) line = let e : copy_row.name ∷ words ≡ reorder_row.name ∷ line.behind = line.named in absurd (cc)
+only_copy words input output first second (make d o n k) line = absurd (copy_is_not_make words line.line.behind line.line.named)
 
 pub copy_line : (words : List Word) (input output : Word) → Follow 2 [] words → Operand words 0 input → Operand words 1 output → SpellsOnly (copy_row.name ∷ words) (copy input output)
 copy_line words input output follow first second = record {
@@ -45,6 +52,7 @@ only_report words input workers first value (report i w) line =
     ap (λ n. report n w) (sym one) ∙ ap (report input) (sym two)
 only_report words input workers first value (copy i o) line = let e : report_row.name ∷ words ≡ copy_row.name ∷ line.behind = line.named in absurd (cc)
 only_report words input workers first value (reorder i o k) line = let e : report_row.name ∷ words ≡ reorder_row.name ∷ line.behind = line.named in absurd (cc)
+only_report words input workers first value (make d o n k) line = let e : report_row.name ∷ words ≡ make_row.name ∷ line.line.behind = line.line.named in absurd (cc)
 
 pub report_line : (words : List Word) (input : Word) (workers : ℕ) → Follow 1 (workers_option ∷ []) words → Operand words 0 input → Workers words (Some workers)
     → SpellsOnly (report_row.name ∷ words) (report input workers)
@@ -65,6 +73,7 @@ no_workers words none (report i w) line =
     none-some w ((none line.follow.parts are w).1 line.options.0)
 no_workers words none (copy i o) line = let e : report_row.name ∷ words ≡ copy_row.name ∷ line.behind = line.named in absurd (cc)
 no_workers words none (reorder i o k) line = let e : report_row.name ∷ words ≡ reorder_row.name ∷ line.behind = line.named in absurd (cc)
+no_workers words none (make d o n k) line = let e : report_row.name ∷ words ≡ make_row.name ∷ line.line.behind = line.line.named in absurd (cc)
 
 -- ---- the options of a reordering
 
@@ -173,6 +182,7 @@ only_reorder words input output options first second all (reorder i o k) line =
     ap (λ n. reorder n o k) (sym one) ∙ ap (λ n. reorder input n k) (sym two) ∙ ap (reorder input output) (sym three)
 only_reorder words input output options first second all (copy i o) line = let e : reorder_row.name ∷ words ≡ copy_row.name ∷ line.behind = line.named in absurd (cc)
 only_reorder words input output options first second all (report i w) line = let e : reorder_row.name ∷ words ≡ report_row.name ∷ line.behind = line.named in absurd (cc)
+only_reorder words input output options first second all (make d o n k) line = let e : reorder_row.name ∷ words ≡ make_row.name ∷ line.line.behind = line.line.named in absurd (cc)
 
 pub reorder_line : (words : List Word) (input output : Word) (options : Reordering) → Follow 2 reordering_options words → Operand words 0 input → Operand words 1 output → Reorders words (Some options)
     → SpellsOnly (reorder_row.name ∷ words) (reorder input output options)
@@ -193,3 +203,71 @@ no_reordering words none (reorder i o k) line =
     none-some k ((none line.follow.parts are k).1 line.options)
 no_reordering words none (copy i o) line = let e : reorder_row.name ∷ words ≡ copy_row.name ∷ line.behind = line.named in absurd (cc)
 no_reordering words none (report i w) line = let e : reorder_row.name ∷ words ≡ report_row.name ∷ line.behind = line.named in absurd (cc)
+no_reordering words none (make d o n k) line = let e : reorder_row.name ∷ words ≡ make_row.name ∷ line.line.behind = line.line.named in absurd (cc)
+
+-- ---- the words behind `make`
+
+-- the number of the generator that the words say
+abbrev Numbers : List Word → Option ℕ → Type 0
+Numbers words found = OfParts words (λ parts. Finds found (ComesTo number_option (values_of number_option.name parts)))
+
+only_make : (words : List Word) (count : Word) (documents : ℕ) (output : Word) (number : ℕ) (options : Reordering) → Operand words 0 count → Finds (Some documents) (Means document_counts count) → Operand words 1 output
+    → Numbers words (Some number) → Reorders words (Some options) → (other : Command) → IsCommand (make_row.name ∷ words) other → other ≡ make documents output number options
+only_make words count documents output number options first found second drawn all (make d o n k) spelt =
+    let line = spelt.line in
+    let are = same_behind make_row.name words line.behind line.follow.parts line.named line.follow.whole in
+    let same : count ≡ spelt.count = same_Some count spelt.count (first line.follow.parts are ∙ ap (λ ns. slice_get ns 0) line.operands) in
+    let one : documents ≡ d = same_Some documents d ((found d).1 (subst (λ word. Means document_counts word d) (sym same) spelt.means)) in
+    let two : output ≡ o = same_Some output o (second line.follow.parts are ∙ ap (λ ns. slice_get ns 1) line.operands) in
+    let three : number ≡ n = same_Some number n ((drawn line.follow.parts are n).1 line.options.0) in
+    let four : options ≡ k = same_Some options k ((all line.follow.parts are k).1 line.options.1) in
+    ap (λ m. make m o n k) (sym one) ∙ ap (λ m. make documents m n k) (sym two) ∙ ap (λ m. make documents output m k) (sym three) ∙ ap (make documents output number) (sym four)
+only_make words count documents output number options first found second drawn all (copy i o) line = absurd (copy_is_not_make line.behind words (sym line.named))
+only_make words count documents output number options first found second drawn all (report i w) line = let e : make_row.name ∷ words ≡ report_row.name ∷ line.behind = line.named in absurd (cc)
+only_make words count documents output number options first found second drawn all (reorder i o k) line = let e : make_row.name ∷ words ≡ reorder_row.name ∷ line.behind = line.named in absurd (cc)
+
+pub make_line : (words : List Word) (count : Word) (documents : ℕ) (output : Word) (number : ℕ) (options : Reordering) → Follow 2 (number_option ∷ reordering_options) words → Operand words 0 count
+    → Finds (Some documents) (Means document_counts count) → Operand words 1 output → Numbers words (Some number) → Reorders words (Some options)
+    → SpellsOnly (make_row.name ∷ words) (make documents output number options)
+make_line words count documents output number options follow first found second drawn all = record {
+  spelt = record {
+    count = count;
+    means = (found documents).0 refl;
+    line = record {
+      behind = words;
+      named = refl;
+      follow = follow;
+      operands = two_operands (operands_of follow.parts) count output follow.count (first follow.parts follow.whole) (second follow.parts follow.whole);
+      options = ((drawn follow.parts follow.whole number).0 refl, (all follow.parts follow.whole options).0 refl);
+    };
+  };
+  only = only_make words count documents output number options first found second drawn all;
+}
+
+pub no_documents : (words : List Word) (count : Word) → Operand words 0 count → Finds None (Means document_counts count) → Answers (make_row.name ∷ words) None
+no_documents words count first none (make d o n k) spelt =
+    let line = spelt.line in
+    let are = same_behind make_row.name words line.behind line.follow.parts line.named line.follow.whole in
+    let same : count ≡ spelt.count = same_Some count spelt.count (first line.follow.parts are ∙ ap (λ ns. slice_get ns 0) line.operands) in
+    none-some d ((none d).1 (subst (λ word. Means document_counts word d) (sym same) spelt.means))
+no_documents words count first none (copy i o) line = absurd (copy_is_not_make line.behind words (sym line.named))
+no_documents words count first none (report i w) line = let e : make_row.name ∷ words ≡ report_row.name ∷ line.behind = line.named in absurd (cc)
+no_documents words count first none (reorder i o k) line = let e : make_row.name ∷ words ≡ reorder_row.name ∷ line.behind = line.named in absurd (cc)
+
+pub no_number : (words : List Word) → Numbers words None → Answers (make_row.name ∷ words) None
+no_number words none (make d o n k) spelt =
+    let line = spelt.line in
+    let are = same_behind make_row.name words line.behind line.follow.parts line.named line.follow.whole in
+    none-some n ((none line.follow.parts are n).1 line.options.0)
+no_number words none (copy i o) line = absurd (copy_is_not_make line.behind words (sym line.named))
+no_number words none (report i w) line = let e : make_row.name ∷ words ≡ report_row.name ∷ line.behind = line.named in absurd (cc)
+no_number words none (reorder i o k) line = let e : make_row.name ∷ words ≡ reorder_row.name ∷ line.behind = line.named in absurd (cc)
+
+pub no_made_reordering : (words : List Word) → Reorders words None → Answers (make_row.name ∷ words) None
+no_made_reordering words none (make d o n k) spelt =
+    let line = spelt.line in
+    let are = same_behind make_row.name words line.behind line.follow.parts line.named line.follow.whole in
+    none-some k ((none line.follow.parts are k).1 line.options.1)
+no_made_reordering words none (copy i o) line = absurd (copy_is_not_make line.behind words (sym line.named))
+no_made_reordering words none (report i w) line = let e : make_row.name ∷ words ≡ report_row.name ∷ line.behind = line.named in absurd (cc)
+no_made_reordering words none (reorder i o k) line = let e : make_row.name ∷ words ≡ reorder_row.name ∷ line.behind = line.named in absurd (cc)

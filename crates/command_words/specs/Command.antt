@@ -1,7 +1,7 @@
 -- The commands: a table with a row for each, and what a line of each means.
 use Rattle.std.specs.Prelude.{◌≡◌, ℕ, Option, Some, None, List, [], ◌∷◌, map, String, string_bytes, codes, if◌then◌else◌}
 use Rattle.std.specs.Global.{Global}
-use Rattle.command_words.specs.Line.{Word, OptionRow, Row, IsLine, range, either}
+use Rattle.command_words.specs.Line.{Word, Values, OptionRow, Row, Means, IsLine, range, either}
 use Rattle.command_words.specs.declared.reordering.Reordering.{Reordering}
 
 -- how many threads work: 1 to 64, and 1 where nothing is said
@@ -37,6 +37,14 @@ start_option = record {
   default = 0;
 }
 
+-- the number that a generated index is drawn from: 0 to 4294967295, and 1 where nothing is said
+abbrev pub number_option : OptionRow
+number_option = record { name = codes "--number"; values = range 0 4294967295; default = 1 }
+
+-- how many documents a generated index has: 0 to 1000000
+abbrev pub document_counts : Values
+document_counts = range 0 1000000
+
 -- the options of a reordering
 abbrev pub reordering_options : List OptionRow
 reordering_options =
@@ -61,6 +69,11 @@ report_row = record { name = codes "report"; operands = 1; options = workers_opt
 abbrev pub reorder_row : Row
 reorder_row = record { name = codes "reorder"; operands = 2; options = reordering_options }
 
+-- make N OUT
+abbrev pub make_row : Row
+make_row =
+    record { name = codes "make"; operands = 2; options = number_option ∷ reordering_options }
+
 pub data Command : Type 0 where
   -- of IN and OUT
   copy : Word → Word → Command
@@ -68,6 +81,16 @@ pub data Command : Type 0 where
   report : Word → ℕ → Command
   -- of IN and OUT, with these options
   reorder : Word → Word → Reordering → Command
+  -- of so many documents and OUT, drawn from a number, with these options
+  make : ℕ → Word → ℕ → Reordering → Command
+
+-- the words are a line of `make`, whose first operand means so many documents
+pub record IsMake
+    (words : List Word) (documents : ℕ) (output : Word) (number : ℕ) (options : Reordering)
+    : Type 0 where
+  pub count : Word
+  pub means : Means document_counts count documents
+  pub line : IsLine make_row words (count ∷ output ∷ []) (number ∷ numbers_of options)
 
 -- the words spell the command
 abbrev pub IsCommand : List Word → Command → Type 0
@@ -75,6 +98,8 @@ IsCommand words (copy input output) = IsLine copy_row words (input ∷ output �
 IsCommand words (report input workers) = IsLine report_row words (input ∷ []) (workers ∷ [])
 IsCommand words (reorder input output options) =
     IsLine reorder_row words (input ∷ output ∷ []) (numbers_of options)
+IsCommand words (make documents output number options) =
+    IsMake words documents output number options
 
 -- the words spell this command and no other
 pub record SpellsOnly (words : List Word) (command : Command) : Type 0 where

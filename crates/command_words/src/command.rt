@@ -1,12 +1,16 @@
 //! The commands that words spell.
 ghost use Rattle.std.specs.Prelude.{◌≡◌, ◌↔◌, ◌∷◌, Some, option_map};
 ghost use Rattle.command_words.specs.Line.{OfParts, ComeTo};
-ghost use Rattle.command_words.specs.Command.{Answers, copy_row, report_row, reorder_row, reordering_options, numbers_of, texts_of};
+ghost use Rattle.command_words.specs.Command.{Answers, copy_row, report_row, reorder_row, make_row, reordering_options, numbers_of, texts_of};
 ghost use Rattle.command_words.specs.View.{command_seen};
 
+use crate::number::meaning;
 use crate::part::{follow, operand, value_of};
 use crate::reordering::Reordering;
-use crate::table::{COPY, DEPTH, LEAF, MIN_DF, REORDER, REPORT, ROUNDS, START, STEP, WORKERS};
+use crate::table::{
+    COPY, DEPTH, DOCUMENTS, LEAF, MAKE, MIN_DF, NUMBER, REORDER, REPORT, ROUNDS, START, STEP,
+    WORKERS,
+};
 
 /// A command with its operands and the numbers of its options.
 #[derive(Clone, Copy, Debug, PartialEq, Eq)]
@@ -26,6 +30,14 @@ pub enum Command<'a> {
     Reorder {
         input: &'a str,
         output: &'a str,
+        options: Reordering,
+    },
+    /// Draws an index of so many documents from a number, writes it to the file `output`, reorders it
+    /// in memory, and prints how many rounds were kept and the gap costs before and after.
+    Make {
+        documents: u32,
+        output: &'a str,
+        number: u32,
         options: Reordering,
     },
 }
@@ -94,6 +106,26 @@ fn reorder_of(words: &[String]) -> Option<Command<'_>>
     })
 }
 
+// The words behind `make`.
+fn make_of(words: &[String]) -> Option<Command<'_>>
+    ensures { Answers (make_row.name ∷ texts_of words.now) (option_map command_seen result) }
+{
+    if !follow(words, &MAKE) {
+        return None;
+    }
+    let count = operand(words, 0)?;
+    let documents = meaning(DOCUMENTS, count)?;
+    let output = operand(words, 1)?;
+    let number = value_of(words, &NUMBER)?;
+    let options = reordering_of(words)?;
+    Some(Command::Make {
+        documents,
+        output,
+        number,
+        options,
+    })
+}
+
 /// The command that the words spell, or nothing where they spell none. It takes no memory.
 pub fn command_of(words: &[String]) -> Option<Command<'_>>
     ensures command { Answers (texts_of words.now) (option_map command_seen result) }
@@ -105,6 +137,7 @@ pub fn command_of(words: &[String]) -> Option<Command<'_>>
         "copy" => copy_of(rest),
         "report" => report_of(rest),
         "reorder" => reorder_of(rest),
+        "make" => make_of(rest),
         _ => None,
     }
 }

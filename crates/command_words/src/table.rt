@@ -84,6 +84,22 @@ pub(crate) const START: OptionRow = OptionRow {
     default: 0,
 };
 
+/// The number that a generated index is drawn from.
+pub(crate) const NUMBER: OptionRow = OptionRow {
+    name: "--number",
+    values: Values::Numbers {
+        least: 0,
+        most: u32::MAX,
+    },
+    default: 1,
+};
+
+/// How many documents a generated index has.
+pub(crate) const DOCUMENTS: Values = Values::Numbers {
+    least: 0,
+    most: 1000000,
+};
+
 /// The options of a reordering.
 pub(crate) const REORDERING: &[OptionRow] = &[DEPTH, ROUNDS, LEAF, WORKERS, STEP, MIN_DF, START];
 
@@ -106,4 +122,11 @@ pub(crate) const REORDER: Row = Row {
     name: "reorder",
     operands: 2,
     options: REORDERING,
+};
+
+/// `make N OUT`
+pub(crate) const MAKE: Row = Row {
+    name: "make",
+    operands: 2,
+    options: &[NUMBER, DEPTH, ROUNDS, LEAF, WORKERS, STEP, MIN_DF, START],
 };

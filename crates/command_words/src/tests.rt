@@ -265,7 +265,64 @@ fn words_that_are_no_reordering(rt: HostRuntime) -> Result<(), Fail> {
     Ok(())
 }
 
-/// A row with what no command has yet: the whole range of a number.
+/// The words of `make` and of its options, and what they come to.
+#[test]
+fn words_that_are_a_generated_index(rt: HostRuntime) -> Result<(), Fail> {
+    let rows: [(&[&str], u32, &str, u32); 6] = [
+        (&["make", "0", "b"], 0, "b", 1),
+        (&["make", "1000000", "7"], 1000000, "7", 1),
+        (&["make", "0000000012", "b"], 12, "b", 1),
+        (&["make", "--number", "0", "3", "b"], 3, "b", 0),
+        (
+            &["make", "3", "--number", "4294967295", "b"],
+            3,
+            "b",
+            u32::MAX,
+        ),
+        (
+            &["make", "3", "b", "--leaf", "16", "--number", "5"],
+            3,
+            "b",
+            5,
+        ),
+    ];
+    for (words, documents, output, number) in rows {
+        let words = words_of(rt.alloc(), words)?;
+        let command = Command::Make {
+            documents,
+            output,
+            number,
+            options: PLAIN,
+        };
+        assert_eq!(rt; command_of(&words), Some(command), "{words:?}");
+    }
+    Ok(())
+}
+
+#[test]
+fn words_that_are_no_generated_index(rt: HostRuntime) -> Result<(), Fail> {
+    let rows: [&[&str]; 12] = [
+        &["make"],
+        &["make", "3"],
+        &["make", "x", "b"],
+        &["make", "", "b"],
+        &["make", "-1", "b"],
+        &["make", "1000001", "b"],
+        &["make", "00000000003", "b"],
+        &["make", "b", "3"],
+        &["make", "3", "b", "c"],
+        &["make", "3", "b", "--number", "4294967296"],
+        &["make", "3", "b", "--depth", "32"],
+        &["make", "3", "b", "--number", "1", "--number", "1"],
+    ];
+    for words in rows {
+        let words = words_of(rt.alloc(), words)?;
+        assert_eq!(rt; command_of(&words), None, "{words:?}");
+    }
+    Ok(())
+}
+
+/// A row with an operand and two options.
 const SAMPLE: Row = Row {
     name: "sample",
     operands: 1,
