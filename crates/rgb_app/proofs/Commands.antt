@@ -1,5 +1,5 @@
 -- What the steps of each command come to.
-use Rattle.std.proofs.Common.{◌≡◌, ℕ, ◌<◌, ◌≤◌, List, [], ◌∷◌, Option, Some, None, IsSomeAnd, IfSome, Result, Ok, Err, refl, sym, ap, subst, ◌∙◌, inl, inr, arith}
+use Rattle.std.proofs.Common.{◌≡◌, ℕ, ◌<◌, ◌≤◌, List, [], ◌∷◌, Option, Some, None, IsSomeAnd, IfSome, Result, Ok, Err, refl, sym, ap, subst, ◌∙◌, inl, inr, arith, min}
 use Rattle.std.specs.Result.{IsErrAnd, MatchResult}
 use Rattle.std.specs.FinMap.{get}
 use Rattle.rgb_base.specs.Parts.{IndexParts}
@@ -13,12 +13,14 @@ use Rattle.ciff_reader.specs.Reading.{OfFile, Explains}
 use Rattle.ciff_reader.specs.declared.error.ReadError.{ReadError}
 use Rattle.ciff_reader.specs.declared.error.ReadError.TheVariants as errors
 use Rattle.command_words.specs.Line.{Word, ComesTo as OptionComesTo}
-use Rattle.command_words.specs.Command.{Command, copy, report, reorder, workers_option, IsCommand}
+use Rattle.command_words.specs.Command.{Command, copy, report, reorder, make, workers_option, IsCommand}
 use Rattle.command_words.specs.declared.reordering.Reordering.{Reordering}
 use Rattle.bisection.specs.declared.trace.KeptRound.{KeptRound}
 use Rattle.rgb_app.specs.Text.{index_line, report_text, reorder_text}
 use Rattle.rgb_app.specs.Reordering.{IsReordered}
-use Rattle.rgb_app.specs.Outcome.{Input, index_file, inputs_of, done, malformed, missing, writing, printing, FirstStops, ComesTo}
+use Rattle.generated_index.specs.Generated.{generated}
+use Rattle.rgb_app.specs.Summary.{IsSummary}
+use Rattle.rgb_app.specs.Outcome.{Input, index_file, inputs_of, done, malformed, missing, writing, printing, index_made, FirstStops, ComesTo}
 use Rattle.rgb_app.specs.Status.{status_of_read}
 use Rattle.rgb_app.specs.Ends.{MayComeTo, delivered, IsCutOff, Says}
 use Rattle.rgb_app.specs.declared.status.Status.TheVariants.{Done, WriteFault}
@@ -122,3 +124,32 @@ pub reorder_cut : (input output : Word) (options : Reordering) (index new : Inde
     → IsReordered options index new trace → text ≡ reorder_text index new trace → read ≡ before → IsCutOff (writing output (bytes_of new) text) read after → Says WriteFault (reorder input output options) before after
 reorder_cut input output options index new trace text before read after holds is text_is same cut =
     (writing output (bytes_of new) text, reorder_work input output options index new trace text before holds is text_is, subst (λ host. IsCutOff (writing output (bytes_of new) text) host after) same cut)
+
+-- ---- make
+
+-- so many documents that the bound is none
+pub made_is : (documents number : ℕ) (index : IndexParts) → documents ≤ 1000000 → index ≡ generated number documents → index ≡ index_made documents number
+made_is documents number index few is =
+    let bound : documents ≡ min documents 1000000 = omega (arith, few) in
+    is ∙ ap (generated number) bound
+
+make_comes : (told : Option Files) (documents : ℕ) (output : Word) (number : ℕ) (options : Reordering) (text : List ℕ) → IsSummary options (index_made documents number) text
+    → IfSome told (λ files. ComesTo (make documents output number options) files (done (writing output (bytes_of (index_made documents number)) text)))
+make_comes None documents output number options text is = tt
+make_comes (Some files) documents output number options text is = (text, is, refl)
+
+make_work : (documents : ℕ) (output : Word) (number : ℕ) (options : Reordering) (index : IndexParts) (text : List ℕ) (before : Seen) → index ≡ index_made documents number → IsSummary options index text
+    → MayComeTo (make documents output number options) before (done (writing output (bytes_of index) text))
+make_work documents output number options index text before is sums =
+    subst (λ i. MayComeTo (make documents output number options) before (done (writing output (bytes_of i) text))) (sym is)
+    (make_comes before.files documents output number options text (subst (λ i. IsSummary options i text) is sums))
+
+pub generated_whole : (documents : ℕ) (output : Word) (number : ℕ) (options : Reordering) (index : IndexParts) (text lent : List ℕ) (before after : Seen) → index ≡ index_made documents number → IsSummary options index text
+    → lent ≡ text → after ≡ delivered (writing output (bytes_of index) lent) before → Says Done (make documents output number options) before after
+generated_whole documents output number options index text lent before after is sums same stands =
+    (writing output (bytes_of index) lent, make_work documents output number options index lent before is (subst (IsSummary options index) (sym same) sums), stands)
+
+pub generated_cut : (documents : ℕ) (output : Word) (number : ℕ) (options : Reordering) (index : IndexParts) (text lent : List ℕ) (before after : Seen) → index ≡ index_made documents number → IsSummary options index text
+    → lent ≡ text → IsCutOff (writing output (bytes_of index) lent) before after → Says WriteFault (make documents output number options) before after
+generated_cut documents output number options index text lent before after is sums same cut =
+    (writing output (bytes_of index) lent, make_work documents output number options index lent before is (subst (IsSummary options index) (sym same) sums), cut)

@@ -1,5 +1,5 @@
 -- A command over files comes to one outcome, and to none other.
-use Rattle.std.proofs.Common.{◌≡◌, ◌⊎◌, ℕ, List, [], ◌∷◌, Option, Some, None, IsSomeAnd, IfSome, refl, sym, ap, subst, ◌∙◌, inl, inr}
+use Rattle.std.proofs.Common.{◌≡◌, ◌⊎◌, ℕ, List, [], ◌∷◌, Option, Some, None, IsSomeAnd, IfSome, refl, sym, ap, subst, ◌∙◌, inl, inr, ◌≤◌, arith, min}
 use Rattle.std.specs.FinMap.{get}
 use Rattle.ciff_wire.specs.Laws.{AreBytes}
 use Rattle.rgb_base.specs.Parts.{IndexParts, IsIndex}
@@ -10,13 +10,16 @@ use Rattle.ciff_format.specs.declared.cause.Cause.{Cause}
 use Rattle.ciff_format.specs.Laws.{FileIsOneIndex, AcceptedIsIndex, RefusalIsOne, NeverBoth, EveryFileIsRead}
 use Rattle.rgb_host.specs.Files.{Files}
 use Rattle.command_words.specs.Line.{Word}
-use Rattle.command_words.specs.Command.{Command, copy, report, reorder}
+use Rattle.command_words.specs.Command.{Command, copy, report, reorder, make}
 use Rattle.command_words.specs.declared.reordering.Reordering.{Reordering}
 use Rattle.bisection.specs.declared.trace.KeptRound.{KeptRound}
-use Rattle.rgb_app.specs.Text.{index_line, report_text, reorder_text}
+use Rattle.rgb_app.specs.Text.{index_line, report_text, reorder_text, make_text}
 use Rattle.rgb_app.specs.Reordering.{IsReordered}
+use Rattle.rgb_app.specs.Summary.{IsSummary}
+use Rattle.generated_index.specs.Generated.{generated}
+use Rattle.generated_index.specs.Laws.{GeneratedIsIndex}
 use Rattle.rgb_app.proofs.Reorderings.{AreOne, AreThere, one_reordering, some_reordering}
-use Rattle.rgb_app.specs.Outcome.{Input, index_file, inputs_of, Work, Outcome, done, malformed, missing, IsGood, Stops, FirstStops, writing, printing, IsWork, ComesTo}
+use Rattle.rgb_app.specs.Outcome.{Input, index_file, inputs_of, Work, Outcome, done, malformed, missing, IsGood, Stops, FirstStops, writing, printing, index_made, IsWork, ComesTo}
 use Rattle.rgb_app.specs.Laws.{OneOutcome, SomeOutcome}
 
 -- ---- the file of an input
@@ -86,6 +89,11 @@ work_is_one law laws files (reorder input output options) one other p q =
     let both = one_reordering laws options q.0 p.1 q.1 p.2 q.2 reordered q.4 in
     let work : IndexParts → IndexParts → List KeptRound → Work = λ index new trace. writing output (bytes_of new) (reorder_text index new trace) in
     p.5 ∙ ap (λ index. work index p.1 p.2) same ∙ ap (λ new. work q.0 new p.2) both.new ∙ ap (work q.0 q.1) both.trace ∙ sym q.5
+work_is_one law laws files (make documents output number options) one other p q =
+    let index = index_made documents number in
+    let both = one_reordering laws options index p.1.new q.1.new p.1.trace q.1.trace p.1.is_reordered q.1.is_reordered in
+    let same : p.0 ≡ q.0 = p.1.is_text ∙ ap (λ new. make_text index new p.1.trace) both.new ∙ ap (make_text index q.1.new) both.trace ∙ sym q.1.is_text in
+    p.2 ∙ ap (writing output (bytes_of index)) same ∙ sym q.2
 
 -- where there is work no input stops it
 work_goes_on : NeverBoth → (files : Files) (command : Command) (work : Work) (outcome : Outcome) → IsWork files command work → FirstStops files (inputs_of command) outcome → ⊥
@@ -95,6 +103,7 @@ work_goes_on law files (report input workers) work outcome p (inl s) = good_does
 work_goes_on law files (report input workers) work outcome p (inr s) = s.1
 work_goes_on law files (reorder input output options) work outcome p (inl s) = good_does_not_stop law files (index_file input) outcome (p.0, p.3) s
 work_goes_on law files (reorder input output options) work outcome p (inr s) = s.1
+work_goes_on law files (make documents output number options) work outcome p s = s
 
 pub one_outcome : FileIsOneIndex → RefusalIsOne → NeverBoth → AreOne → OneOutcome
 one_outcome law refusal never laws command files (done a) (done b) p q = ap done (work_is_one law laws files command a b p q)
@@ -144,7 +153,17 @@ some_reorder sound laws files input output options (good index holds) =
 some_reorder sound laws files input output options (bad place cause is) = (malformed place cause, inl is)
 some_reorder sound laws files input output options (gone is) = (missing, inl is)
 
-pub some_outcome : EveryFileIsRead → AcceptedIsIndex → AreThere → SomeOutcome
-some_outcome law sound laws (copy input output) files bytes = some_copy files input output (reading law (get files input) (bytes input))
-some_outcome law sound laws (report input workers) files bytes = some_report files input workers (reading law (get files input) (bytes input))
-some_outcome law sound laws (reorder input output options) files bytes = some_reorder sound laws files input output options (reading law (get files input) (bytes input))
+some_make : GeneratedIsIndex → AreThere → (files : Files) (documents : ℕ) (output : Word) (number : ℕ) (options : Reordering) → (outcome : Outcome) × ComesTo (make documents output number options) files outcome
+some_make sound laws files documents output number options =
+    let index = index_made documents number in
+    let few : min documents 1000000 ≤ 1000000 = omega arith in
+    let made = some_reordering laws options index (sound number (min documents 1000000) few) in
+    let text = make_text index made.new made.trace in
+    let summary : IsSummary options index text = record { new = made.new; trace = made.trace; is_reordered = made.is_reordered; is_text = refl } in
+    (done (writing output (bytes_of index) text), (text, summary, refl))
+
+pub some_outcome : EveryFileIsRead → AcceptedIsIndex → GeneratedIsIndex → AreThere → SomeOutcome
+some_outcome law sound generates laws (copy input output) files bytes = some_copy files input output (reading law (get files input) (bytes input))
+some_outcome law sound generates laws (report input workers) files bytes = some_report files input workers (reading law (get files input) (bytes input))
+some_outcome law sound generates laws (reorder input output options) files bytes = some_reorder sound laws files input output options (reading law (get files input) (bytes input))
+some_outcome law sound generates laws (make documents output number options) files bytes = some_make generates laws files documents output number options

@@ -11,11 +11,11 @@ use Rattle.std.proofs.lemmas.Map.Made.{AllPairs-from_IsDistinct, IsDistinct-from
 use Rattle.rgb_base.specs.Parts.{IndexParts, IsIndex}
 use Rattle.rgb_base.specs.Order.{IsOrder}
 use Rattle.forward_index.specs.Forward.{ForwardIndex, IsForward, IsForwardOf}
-use Rattle.forward_index.specs.Laws.{ForwardIsOne, StartByNameIsOne}
+use Rattle.forward_index.specs.Laws.{ForwardIsOne, StartByNameIsOne, StartIsThere}
 use Rattle.bisection.specs.declared.trace.KeptRound.{KeptRound}
 use Rattle.bisection.specs.Recursion.{IsNumbered, all_places, order_of}
 use Rattle.bisection.specs.Laws.{NumberingIsOne, EachDocumentOnce}
-use Rattle.bisection.specs.There.{StartIsThere, NumberingOfIsThere}
+use Rattle.bisection.specs.There.{NumberingOfIsThere}
 use Rattle.postings_rewrite.specs.Renumbering.{IsRenumbered}
 use Rattle.postings_rewrite.specs.Laws.{IsOrderOf, RenumberedIsThere, RenumberingIsOne}
 use Rattle.command_words.specs.declared.reordering.Reordering.{Reordering}

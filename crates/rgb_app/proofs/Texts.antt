@@ -1,12 +1,15 @@
 -- The text of a reordering, of its parts.
-use Rattle.std.proofs.Common.{◌≡◌, ℕ, List, ◌++◌, Result, Ok, string_bytes, ap, ◌∙◌}
+use Rattle.std.proofs.Common.{◌≡◌, ℕ, List, ◌++◌, length, codes, decimal, Result, Ok, Err, IfOk, string_bytes, ap, ◌∙◌}
 use Rattle.rgb_base.specs.Parts.{IndexParts}
 use Rattle.bisection.specs.declared.trace.KeptRound.{KeptRound}
 use Rattle.gap_report.specs.declared.costs.Costs.{Costs}
 use Rattle.gap_report.specs.Costs.{costs_of}
 use Rattle.rgb_app.specs.Prepared.{text_of}
 use Rattle.rgb_app.specs.declared.reordering.Reordered.{Reordered}
-use Rattle.rgb_app.specs.Text.{index_line, round_lines, cost_lines, reorder_text}
+use Rattle.command_words.specs.declared.reordering.Reordering.{Reordering}
+use Rattle.rgb_app.specs.Reordering.{IsReordered}
+use Rattle.rgb_app.specs.Summary.{IsSummary}
+use Rattle.rgb_app.specs.Text.{line_of, index_line, round_lines, kept_line, cost_lines, reorder_text}
 
 -- the text between whose first and last lines the kept rounds stand
 pub text_is : (index new : IndexParts) (trace : List KeptRound) (before after : Costs) (first last : List ℕ) → before ≡ costs_of index → after ≡ costs_of new
@@ -25,3 +28,20 @@ parts_are work first last rounds first_is rounds_are last_is =
     ap (λ (w : List ℕ). w ++ (round_lines rounds ++ last)) first_is
     ∙ ap (λ (r : List KeptRound). string_bytes work.first ++ (round_lines r ++ last)) rounds_are
     ∙ ap (λ (w : List ℕ). string_bytes work.first ++ (round_lines work.rounds ++ w)) last_is
+
+-- ---- what a reordering in memory comes to
+
+pub if_ok_map : {X Y : Type 0} (r : Result X Y) (P Q : X → Type 0) → ((x : X) → P x → Q x) → IfOk r P → IfOk r Q
+if_ok_map (Ok x) P Q step p = step x p
+if_ok_map (Err e) P Q step p = tt
+
+pub summary_is : (options : Reordering) (index new : IndexParts) (trace : List KeptRound) (kept : ℕ) (before after : Costs) (text : List ℕ) → IsReordered options index new trace → kept ≡ length trace
+    → before ≡ costs_of index → after ≡ costs_of new → text ≡ index_line index ++ (line_of (codes "kept " ++ decimal kept) ++ cost_lines before after) → IsSummary options index text
+summary_is options index new trace kept before after text is kept_is before_is after_is text_is = record {
+  new = new;
+  trace = trace;
+  is_reordered = is;
+  is_text = text_is ∙ ap (λ (k : ℕ). index_line index ++ (line_of (codes "kept " ++ decimal k) ++ cost_lines before after)) kept_is
+      ∙ ap (λ (c : Costs). index_line index ++ (kept_line trace ++ cost_lines c after)) before_is
+      ∙ ap (λ (c : Costs). index_line index ++ (kept_line trace ++ cost_lines (costs_of index) c)) after_is;
+}

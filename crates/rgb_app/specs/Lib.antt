@@ -6,3 +6,4 @@ pub mod Ends
 pub mod Printing
 pub mod Prepared
 pub mod Laws
+pub mod Summary

@@ -1,5 +1,5 @@
 -- What a command comes to, as a relation to the files that are there.
-use Rattle.std.specs.Prelude.{◌≡◌, ◌⊎◌, ℕ, List, [], ◌∷◌, Option, Some, None, IsSomeAnd}
+use Rattle.std.specs.Prelude.{◌≡◌, ◌⊎◌, ℕ, min, List, [], ◌∷◌, Option, Some, None, IsSomeAnd}
 use Rattle.std.specs.FinMap.{get}
 use Rattle.rgb_base.specs.Parts.{IndexParts}
 use Rattle.rgb_host.specs.Files.{Files}
@@ -8,10 +8,12 @@ use Rattle.ciff_format.specs.Accepted.{Accepted}
 use Rattle.ciff_format.specs.Refused.{Refused}
 use Rattle.ciff_format.specs.declared.cause.Cause.{Cause}
 use Rattle.command_words.specs.Line.{Word}
-use Rattle.command_words.specs.Command.{Command, copy, report, reorder}
+use Rattle.command_words.specs.Command.{Command, copy, report, reorder, make}
 use Rattle.bisection.specs.declared.trace.KeptRound.{KeptRound}
 use Rattle.rgb_app.specs.Text.{index_line, report_text, reorder_text}
+use Rattle.generated_index.specs.Generated.{generated}
 use Rattle.rgb_app.specs.Reordering.{IsReordered}
+use Rattle.rgb_app.specs.Summary.{IsSummary}
 
 -- ---- what a command reads
 
@@ -24,6 +26,7 @@ abbrev pub inputs_of : Command → List Input
 inputs_of (copy input output) = index_file input ∷ []
 inputs_of (report input workers) = index_file input ∷ []
 inputs_of (reorder input output options) = index_file input ∷ []
+inputs_of (make documents output number options) = []
 
 -- the named file is there, and is accepted as this index
 abbrev pub Holds : Files → Word → IndexParts → Type 0
@@ -75,6 +78,11 @@ writing name bytes text =
 abbrev pub printing : List ℕ → Work
 printing text = record { file = None; text = text }
 
+-- the index that `make` writes. Words say at most a million documents; with the bound each value of
+-- the type is a command that comes to something
+abbrev pub index_made : ℕ → ℕ → IndexParts
+index_made documents number = generated number (min documents 1000000)
+
 -- the work of a command whose inputs are good
 abbrev pub IsWork : Files → Command → Work → Type 0
 IsWork files (copy input output) work = (index : IndexParts) × Holds files input index
@@ -85,6 +93,9 @@ IsWork files (reorder input output options) work =
     (index new : IndexParts) × (trace : List KeptRound) × Holds files input index
     × IsReordered options index new trace
     × (work ≡ writing output (bytes_of new) (reorder_text index new trace))
+IsWork files (make documents output number options) work =
+    (text : List ℕ) × IsSummary options (index_made documents number) text
+    × (work ≡ writing output (bytes_of (index_made documents number)) text)
 
 -- over these files the command comes to this
 abbrev pub ComesTo : Command → Files → Outcome → Type 0

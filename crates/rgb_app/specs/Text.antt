@@ -55,6 +55,15 @@ abbrev pub reorder_text : IndexParts → IndexParts → List KeptRound → List 
 reorder_text index new rounds =
     index_line index ++ (round_lines rounds ++ cost_lines (costs_of index) (costs_of new))
 
+-- how many rounds were kept
+abbrev pub kept_line : List KeptRound → List ℕ
+kept_line rounds = line_of (codes "kept " ++ decimal (length rounds))
+
+-- the index line, how many rounds were kept, and the costs of the index and of the new one
+abbrev pub make_text : IndexParts → IndexParts → List KeptRound → List ℕ
+make_text index new rounds =
+    index_line index ++ (kept_line rounds ++ cost_lines (costs_of index) (costs_of new))
+
 -- ---- what is warned
 
 abbrev pub name_of : Cause → List ℕ

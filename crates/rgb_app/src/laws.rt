@@ -4,6 +4,7 @@ ghost use Rattle.rgb_app.specs.Laws.{OneOutcome, SomeOutcome};
 use bisection::laws::{bisection_is_one, each_document_once, numbering_of_is_there};
 use ciff_format::laws::{every_file_is_read, file_is_one_index, never_both, refusal_is_one};
 use forward_index::laws::{forward_is_one, start_by_name_is_one};
+use generated_index::laws::generated_is_index;
 use postings_rewrite::laws::renumbering_is_one;
 
 /// A command over files of bytes comes to exactly one outcome.
@@ -15,6 +16,7 @@ pub fn exactly_one_outcome()
     refusal_is_one();
     never_both();
     every_file_is_read();
+    generated_is_index();
     forward_is_one();
     start_by_name_is_one();
     bisection_is_one();

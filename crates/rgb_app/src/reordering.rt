@@ -1,11 +1,12 @@
 //! What a reordering makes of an index.
-ghost use Rattle.std.specs.Prelude.{◌≡◌, length, IfOk};
+ghost use Rattle.std.specs.Prelude.{◌≡◌, length, IfOk, string_bytes};
 ghost use Rattle.bisection.specs.Progress.{AreOptions};
 ghost use Rattle.rgb_app.specs.Text.{reorder_text};
 ghost use Rattle.rgb_app.specs.Prepared.{text_of};
+ghost use Rattle.rgb_app.specs.Summary.{IsSummary};
 ghost use Rattle.rgb_app.specs.Reordering.{options_of, IsForwardBy, IsNumberingBy, IsReordered};
 
-use crate::text::{cost_lines, index_line};
+use crate::text::{cost_lines, index_line, make_text};
 use bisection::{Options, TraceList, reorder};
 use command_words::Reordering;
 use forward_index::{Forward, start_by_name};
@@ -110,4 +111,21 @@ pub(crate) fn prepare<R: Threads + Sync>(
         first,
         last,
     })
+}
+
+/// The text of `make` for an index: what its reordering comes to. The new index is gone afterwards.
+pub(crate) fn summary<R: Threads + Sync>(
+    rt: &R,
+    alloc: Global,
+    index: &Index,
+    options: Reordering,
+) -> Result<String, OutOfMemory>
+    requires options { AreOptions (options_of options) }
+    ensures ok { IfOk result (λ text. IsSummary options index.now (string_bytes text)) }
+{
+    let (new, rounds) = renumbered(rt, alloc, index, options)?;
+    let before = Costs::of(rt, index, options.workers)?;
+    let after = Costs::of(rt, &new, options.workers)?;
+    let kept = rounds.as_slice().len();
+    make_text(alloc, index, kept, before, after)
 }

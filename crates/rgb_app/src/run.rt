@@ -3,7 +3,7 @@ ghost use Rattle.std.specs.Prelude.{◌≡◌, ℕ, ◌<◌, ◌≤◌, ◌↔�
 ghost use Rattle.ciff_format.specs.Canonical.{bytes_of};
 ghost use Rattle.rgb_host.specs.Seen.{with_file};
 ghost use Rattle.bisection.specs.Progress.{AreOptions};
-ghost use Rattle.command_words.specs.Command.{copy, report, reorder, texts_of};
+ghost use Rattle.command_words.specs.Command.{copy, report, reorder, make, texts_of};
 ghost use Rattle.rgb_app.specs.Reordering.{options_of};
 ghost use Rattle.rgb_app.specs.Prepared.{text_of};
 ghost use Rattle.rgb_app.specs.Outcome.{writing, printing};
@@ -12,13 +12,14 @@ ghost use Rattle.rgb_app.specs.Ends.{delivered, IsCutOff, Says, SpellsNone, Spel
 
 use crate::laws::exactly_one_outcome;
 use crate::printing::print_rounds;
-use crate::reordering::{Reordered, prepare};
+use crate::reordering::{Reordered, prepare, summary};
 use crate::status::Status;
 use crate::text::{index_line, report_text};
 use ciff_reader::read_index;
 use ciff_writer::{WriteError, write_index};
 use command_words::{Command, Reordering, command_of};
 use gap_report::Costs;
+use generated_index::generate;
 use rgb_base::Index;
 use rgb_host::laws::created_then_appended;
 use rgb_host::{Failed, Host, print_all, warn_all};
@@ -131,6 +132,31 @@ fn reorder<R: Threads + Sync, H: Host>(
     Ok(())
 }
 
+/// Draws an index of so many documents from a number and writes it to a file, and prints what its
+/// reordering comes to.
+fn make<R: Threads + Sync, H: Host>(
+    rt: &R,
+    alloc: Global,
+    host: &mut H,
+    documents: u32,
+    output: &str,
+    number: u32,
+    options: Reordering,
+) -> Result<(), Status>
+    requires documents { documents ≤ 1000000 }
+    requires options { AreOptions (options_of options) }
+    ensures says { MatchResult result
+        (λ _. Says Status.Done (make documents output.now number options)
+        (H.seen host.old) (H.seen host.new))
+        (λ status. Says status (make documents output.now number options)
+        (H.seen host.old) (H.seen host.new)) }
+{
+    let index = generate(alloc, documents, number)?;
+    let text = summary(rt, alloc, &index, options)?;
+    deliver(host, output, &index, &text)?;
+    Ok(())
+}
+
 /// Warns the line of a status, as far as the host takes it, and answers the status's number.
 fn end<H: Host>(host: &mut H, status: Status) -> u8
     ensures code { result ≡ code_of status }
@@ -158,6 +184,12 @@ fn work<R: Threads + Sync, H: Host>(rt: &R, alloc: Global, words: &[String], hos
             output,
             options,
         } => reorder(rt, alloc, host, input, output, options),
+        Command::Make {
+            documents,
+            output,
+            number,
+            options,
+        } => make(rt, alloc, host, documents, output, number, options),
     };
     match done {
         Ok(()) => Status::Done,

@@ -1,8 +1,8 @@
 //! The texts that are printed.
-ghost use Rattle.std.specs.Prelude.{◌≡◌, length, Some, IfOk, string_bytes};
+ghost use Rattle.std.specs.Prelude.{◌≡◌, ◌++◌, length, codes, decimal, Some, IfOk, string_bytes};
 ghost use Rattle.rgb_base.specs.Parts.{posting_count};
 ghost use Rattle.gap_report.specs.Costs.{costs_of};
-ghost use Rattle.rgb_app.specs.Text.{index_words, index_line, cost_words, cost_lines, report_text};
+ghost use Rattle.rgb_app.specs.Text.{line_of, index_words, index_line, cost_words, cost_lines, report_text};
 
 use gap_report::Costs;
 use rgb_base::{Index, OutOfMemory};
@@ -82,4 +82,30 @@ pub(crate) fn cost_lines(alloc: Global, before: Costs, after: Costs) -> Result<S
     let before = CostWords { costs: before };
     let after = CostWords { costs: after };
     Ok(format!(in alloc; "before {before}\nafter {after}\n")?)
+}
+
+/// The line of `make` that says how many rounds were kept.
+fn kept_line(alloc: Global, kept: usize) -> Result<String, OutOfMemory>
+    ensures line { IfOk result
+        (λ text. string_bytes text ≡ line_of (codes "kept " ++ decimal kept)) }
+{
+    Ok(format!(in alloc; "kept {kept}\n")?)
+}
+
+/// The text of `make`: the index line, how many rounds were kept, and the costs before and after.
+pub(crate) fn make_text(
+    alloc: Global,
+    index: &Index,
+    kept: usize,
+    before: Costs,
+    after: Costs,
+) -> Result<String, OutOfMemory>
+    ensures text { IfOk result (λ text. string_bytes text ≡ index_line index.now
+        ++ (line_of (codes "kept " ++ decimal kept) ++ cost_lines before after)) }
+{
+    let mut text = index_line(alloc, index)?;
+    let mut lines = kept_line(alloc, kept)?;
+    lines.push_str(cost_lines(alloc, before, after)?.as_str())?;
+    text.push_str(lines.as_str())?;
+    Ok(text)
 }

@@ -19,5 +19,5 @@ returns c =
     } in
     record {
       one = one_outcome c.file_is_one_index.ensures.one c.refusal_is_one.ensures.one c.never_both.ensures.never_both ones;
-      some = some_outcome c.every_file_is_read.ensures.read c.file_is_one_index.ensures.sound theirs;
+      some = some_outcome c.every_file_is_read.ensures.read c.file_is_one_index.ensures.sound c.generated_is_index.ensures.law theirs;
     }
