@@ -1,0 +1,4 @@
+pub mod Closed
+pub mod States
+pub mod Steps
+pub mod Texts
