@@ -1,6 +1,6 @@
 //! Rows in which one call of the host fails, for each call in turn until none is left to fail.
 use rgb_host::MemoryHost;
-use rgb_runs::{SIX, SIX_REORDERED, Setting, bytes_of, has_told, run};
+use rgb_runs::{MADE_THREE, OF_MADE_THREE, SIX, SIX_REORDERED, Setting, bytes_of, has_told, run};
 use std::test::Fail;
 use std::thread::Threads;
 
@@ -74,7 +74,7 @@ fn failing_calls<R: Threads + Sync + AllocGlobal>(
     calls: Calls,
     most: u32,
 ) -> Result<Option<u64>, Fail> {
-    for call in 1..1000 {
+    for call in 1..2000 {
         let (status, host) = run(rt, command.words, six, calls.failing(&[call], most))?;
         if status == 0 && command.is_whole(&host) {
             return Ok(Some(call - 1));
@@ -132,6 +132,24 @@ fn each_call_of_report(rt: HostRuntime) -> Result<(), Fail> {
     assert_eq!(rt;
         failing_calls(&rt, command, &six, Calls::Writes, 1)?,
         Some(57)
+    );
+    Ok(())
+}
+
+#[test]
+fn each_call_of_make(rt: HostRuntime) -> Result<(), Fail> {
+    let six = bytes_of(rt.alloc(), SIX)?;
+    let made = bytes_of(rt.alloc(), MADE_THREE)?;
+    let command = Command {
+        words: "make 3 out",
+        written: &made,
+        printed: OF_MADE_THREE,
+    };
+    assert!(rt; each_can_fail(&rt, command, &six)?);
+    // It reads nothing.
+    assert_eq!(rt;
+        failing_calls(&rt, command, &six, Calls::Reads, 1)?,
+        Some(0)
     );
     Ok(())
 }

@@ -1,0 +1,9 @@
+//! Searches in stores, worked out by hand.
+#![tactic(auto)]
+
+#[cfg(test)]
+mod long;
+#[cfg(test)]
+mod searches;
+#[cfg(test)]
+mod short;
