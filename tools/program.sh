@@ -129,6 +129,16 @@ tell "$(grep -c ^round printed_by_name)" "$(grep -c ^round printed_by_number)" '
 row 0 $'documents 0 lists 0 postings 0\nbefore gamma 0 delta 0 bytes 0\nafter gamma 0 delta 0 bytes 0' '' \
     reorder nothing.ciff out.ciff --workers 64
 
+# What another program of the same rules writes and prints for generated indexes.
+made=$'documents 2000 lists 2000 postings 35236\nkept 737\nbefore gamma 420626 delta 385021 bytes 45840'
+for workers in 1 4; do
+    row 0 "$made"$'\nafter gamma 225888 delta 220064 bytes 40597' '' make 2000 made.ciff --workers "$workers"
+    tell "$(cksum <made.ciff)" '2719755772 278767' "made.ciff by $workers workers"
+done
+row 0 $'documents 0 lists 0 postings 0\nkept 0\nbefore gamma 0 delta 0 bytes 0\nafter gamma 0 delta 0 bytes 0' '' \
+    make --number 4294967295 0 made.ciff
+tell "$(wc -c <made.ciff)" 25 'the size of an index of no documents'
+
 row 2 '' usage
 row 2 '' usage Copy one.ciff no.ciff
 row 2 '' usage copy one.ciff
@@ -142,6 +152,9 @@ row 2 '' usage report one.ciff --workers
 row 2 '' usage reorder one.ciff no.ciff --depth 32
 row 2 '' usage reorder one.ciff no.ciff --start doc
 row 2 '' usage reorder one.ciff no.ciff --depth=3
+row 2 '' usage make x no.ciff
+row 2 '' usage make 1000001 no.ciff
+row 2 '' usage make 3 no.ciff --number 4294967296
 row 3 '' 'malformed 0 CutShort' copy /dev/null no.ciff
 row 3 '' 'malformed 25 Trailing' copy longer.ciff no.ciff
 row 3 '' 'malformed 9 SameTerm' copy same_term.ciff no.ciff
@@ -163,6 +176,7 @@ row 5 '' 'write fault' copy one.ciff .
 row 5 '' 'write fault' copy one.ciff /dev/full
 row 5 '' 'write fault' copy many.ciff /dev/full
 row 5 '' 'write fault' reorder "$birds" /dev/full
+row 5 '' 'write fault' make 3 /dev/full
 out=/dev/full
 row 5 '' 'write fault' copy one.ciff whole.ciff
 tell "$(bytes whole.ciff)" "$one" 'whole.ciff'
