@@ -1,5 +1,0 @@
-//! Rows of `make`.
-#![tactic(auto)]
-
-#[cfg(test)]
-mod rows;
