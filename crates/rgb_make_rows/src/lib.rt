@@ -1,0 +1,5 @@
+//! Rows of `make`.
+#![tactic(auto)]
+
+#[cfg(test)]
+mod rows;
