@@ -5,7 +5,7 @@ use Rattle.std.specs.List.{range_with_len}
 use Rattle.std.proofs.lemmas.Int.{ints}
 use Rattle.std.proofs.lemmas.Grind.{same_number_lists}
 use Rattle.std.proofs.lemmas.Bool.Decides.{nat_tests}
-use Rattle.std.proofs.lemmas.List.{length-map}
+use Rattle.std.proofs.lemmas.List.{length-map, get_or_default}
 use Rattle.std.proofs.lemmas.List.Folds.{list_any_at}
 use Rattle.std.proofs.lemmas.List.FromFn.{length-range_with_len, length-map-range_with_len}
 use Rattle.std.proofs.lemmas.List.Sums.{sum_by_more, sum_by-take-le}
@@ -14,7 +14,7 @@ use Rattle.rgb_base.specs.declared.parts.Side.TheVariants.{A, B}
 use Rattle.fixed_log.specs.Log.{LogIsSmall}
 use Rattle.forward_index.specs.Forward.{ForwardIndex, IsForward, IsRow, row_at}
 use Rattle.degrees.specs.Cost.{has_term, degree, part}
-use Rattle.degrees.specs.Counts.{Counted, IsCounted, counts_in, IsCountedIn, moved_across, cost_of}
+use Rattle.degrees.specs.Counts.{Counted, AreBelow, IsCounted, counts_in, IsCountedIn, moved_across, cost_of}
 use Rattle.exchange.specs.Gain.{gain_of, IsReady}
 use Rattle.exchange.specs.Tries.{all_less, all_more, all_across, docs_of, IsWithin, AreCountedIn}
 use Rattle.exchange.specs.declared.entry.Entry.{Entry}
@@ -178,3 +178,12 @@ saved_small logs t u t_sound u_sound t_a t_b u_a u_b z z_is =
     let one = cost_small logs t t_sound t_a t_b in
     let two = cost_small logs u u_sound u_a u_b in
     record { low = omega (arith, ints, one.low, one.high, two.low, two.high); high = omega (arith, ints, one.low, one.high, two.low, two.high) }
+
+-- counts of a table that is ready are below the number
+pub below_ready : (top : ℕ) (table : Counted) → length table.b ≡ length table.a → IsReady top table → AreBelow top table
+below_ready top table len ready = record {
+  a = λ k d inside. omega (arith, get_or_default table.a k d 0 inside, ready.both k inside);
+  b = λ k d inside. omega (arith, get_or_default table.b k d 0 inside, ready.both k (omega (arith, inside, len)));
+  len_a = ready.low_a;
+  len_b = ready.low_b;
+}

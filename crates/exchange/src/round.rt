@@ -162,7 +162,7 @@ fn steps_for<'a>(degrees: &Degrees, docs: usize, room: &'a mut [i32]) -> &'a mut
     ensures room { length result.now ≤ length degrees.now.a }
 {
     let terms = degrees.terms() as usize;
-    if terms <= room.len() && terms / 16 <= docs {
+    if terms <= room.len() && terms / 4 <= docs {
         &mut room[..terms]
     } else {
         &mut []

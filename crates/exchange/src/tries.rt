@@ -35,6 +35,23 @@ fn move_all(ground: &Ground<'_>, degrees: &mut Degrees, entries: &[Entry], from:
     saved
 }
 
+/// The same of the table alone.
+fn shift_all(ground: &Ground<'_>, degrees: &mut Degrees, entries: &[Entry], from: Side)
+    requires terms { length degrees.old.a ≡ ground.now.forward.now.terms }
+    requires below { All (λ entry. entry.doc < length ground.now.forward.now.rows) entries.now }
+    requires counted { AreCountedIn from
+        (degree ground.now.forward.now (docs_of entries.now)) degrees.old }
+    requires ready { IsReady ground.now.logs.now degrees.old }
+    ensures moved { degrees.new ≡ all_across from
+        (degree ground.now.forward.now (docs_of entries.now)) degrees.old }
+{
+    ground.forward.is_sound();
+    degrees.is_sound();
+    for entry in entries {
+        degrees.move_across(ground.forward, entry.doc, from);
+    }
+}
+
 /// Exchanges documents: some leave half A, and others come out of half B. Gives what the halves
 /// cost less after it.
 fn exchange(ground: &Ground<'_>, degrees: &mut Degrees, leave: &[Entry], come: &[Entry]) -> i128
@@ -58,6 +75,67 @@ fn exchange(ground: &Ground<'_>, degrees: &mut Degrees, leave: &[Entry], come: &
     let came = move_all(ground, degrees, come, Side::B);
     degrees.is_sound();
     left + came
+}
+
+/// The same where so many change places that their cost is sooner worked out anew.
+fn exchange_many(
+    ground: &Ground<'_>,
+    degrees: &mut Degrees,
+    leave: &[Entry],
+    come: &[Entry],
+    before: i128,
+) -> i128
+    requires terms { length degrees.old.a ≡ ground.now.forward.now.terms }
+    requires below { All (λ entry. entry.doc < length ground.now.forward.now.rows) leave.now }
+    requires below_come { All (λ entry. entry.doc < length ground.now.forward.now.rows) come.now }
+    requires counted { AreCountedIn Side.A
+        (degree ground.now.forward.now (docs_of leave.now)) degrees.old }
+    requires counted_come { AreCountedIn Side.B
+        (degree ground.now.forward.now (docs_of come.now)) degrees.old }
+    requires ready { IsReady ground.now.logs.now degrees.old }
+    requires before { before ≡ cost_of degrees.old }
+    ensures moved { degrees.new ≡ exchanged_by
+        (degree ground.now.forward.now (docs_of leave.now))
+        (degree ground.now.forward.now (docs_of come.now)) degrees.old }
+    ensures saved { result ≡ cost_of degrees.old -ℤ cost_of degrees.new }
+{
+    log_is_small();
+    degrees.is_sound();
+    shift_all(ground, degrees, leave, Side::A);
+    degrees.is_sound();
+    shift_all(ground, degrees, come, Side::B);
+    degrees.is_sound();
+    before - degrees.cost(ground.logs)
+}
+
+/// The same in the way that takes less time.
+fn exchange_first(
+    ground: &Ground<'_>,
+    degrees: &mut Degrees,
+    leave: &[Entry],
+    come: &[Entry],
+    before: i128,
+) -> i128
+    requires terms { length degrees.old.a ≡ ground.now.forward.now.terms }
+    requires below { All (λ entry. entry.doc < length ground.now.forward.now.rows) leave.now }
+    requires below_come { All (λ entry. entry.doc < length ground.now.forward.now.rows) come.now }
+    requires counted { AreCountedIn Side.A
+        (degree ground.now.forward.now (docs_of leave.now)) degrees.old }
+    requires counted_come { AreCountedIn Side.B
+        (degree ground.now.forward.now (docs_of come.now)) degrees.old }
+    requires ready { IsReady ground.now.logs.now degrees.old }
+    requires before { before ≡ cost_of degrees.old }
+    ensures moved { degrees.new ≡ exchanged_by
+        (degree ground.now.forward.now (docs_of leave.now))
+        (degree ground.now.forward.now (docs_of come.now)) degrees.old }
+    ensures saved { result ≡ cost_of degrees.old -ℤ cost_of degrees.new }
+{
+    // The costs of eight terms take about as long as the gains of a pair.
+    if leave.len() < degrees.terms() as usize / 8 {
+        exchange(ground, degrees, leave, come)
+    } else {
+        exchange_many(ground, degrees, leave, come, before)
+    }
 }
 
 /// How the tries of a round ended: the pairs that stayed exchanged, the cost of the first try, and
@@ -95,7 +173,7 @@ pub(crate) fn first_less(
 {
     log_is_small();
     degrees.is_sound();
-    let saved = exchange(ground, degrees, &a[..pairs], &b[..pairs]);
+    let saved = exchange_first(ground, degrees, &a[..pairs], &b[..pairs], before);
     degrees.is_sound();
     let first = before - saved;
     let mut exchanged = pairs;

@@ -10,37 +10,37 @@ use Rattle.exchange.proofs.Many.{cost_small}
 use Rattle.exchange.proofs.Cascade.{tried_terms, ready_tried, tried_first, tried_next, counted_first_a, counted_first_b, counted_next_a, counted_next_b, none_yet, none_more, whole_first, half_again, All-range}
 use Rattle.exchange.proofs.tries.first_less.Goals as goal
 
-pub exchange-saved-requires-clause-terms : goal.exchange-saved-requires-clause-terms
-exchange-saved-requires-clause-terms c =
+pub exchange_first-saved-requires-clause-terms : goal.exchange_first-saved-requires-clause-terms
+exchange_first-saved-requires-clause-terms c =
     ap (λ (t : Counted). length t.a) c.requires.table ∙ tried_terms c.args.ground.now.forward.now (docs_of c.args.a.now) (docs_of c.args.b.now) 0 c.args.degrees.now.loads
 
-pub exchange-saved-requires-clause-counted : goal.exchange-saved-requires-clause-counted
-exchange-saved-requires-clause-counted c =
+pub exchange_first-saved-requires-clause-counted : goal.exchange_first-saved-requires-clause-counted
+exchange_first-saved-requires-clause-counted c =
     counted_first_a c.args.ground.now.forward.now c.args.a.now c.args.b.now c.args.pairs c.args.degrees.now.loads c.args.degrees.now c.requires.table
 
-pub exchange-saved-requires-clause-counted_come : goal.exchange-saved-requires-clause-counted_come
-exchange-saved-requires-clause-counted_come c =
+pub exchange_first-saved-requires-clause-counted_come : goal.exchange_first-saved-requires-clause-counted_come
+exchange_first-saved-requires-clause-counted_come c =
     counted_first_b c.args.ground.now.forward.now c.args.a.now c.args.b.now c.args.pairs c.args.degrees.now.loads c.args.degrees.now c.requires.table
 
 pub overflow_sub-first : goal.overflow_sub-first
 overflow_sub-first c =
-    let new = c.exchange-saved.new.degrees in
-    let is = tried_first c.args.ground.now.forward.now c.args.a.now c.args.b.now c.args.pairs c.args.degrees.now.loads c.args.degrees.now new c.exchange-saved.ensures.moved c.requires.table in
-    let z = to_z w128 (of_z w128 c.args.before) -ℤ to_z w128 (of_z w128 c.exchange-saved.result) in
-    let z_is : z ≡ cost_of new = omega (arith, ints, c.requires.before, c.exchange-saved.ensures.saved, c.ranges.before, c.exchange-saved.type_inv) in
+    let new = c.exchange_first-saved.new.degrees in
+    let is = tried_first c.args.ground.now.forward.now c.args.a.now c.args.b.now c.args.pairs c.args.degrees.now.loads c.args.degrees.now new c.exchange_first-saved.ensures.moved c.requires.table in
+    let z = to_z w128 (of_z w128 c.args.before) -ℤ to_z w128 (of_z w128 c.exchange_first-saved.result) in
+    let z_is : z ≡ cost_of new = omega (arith, ints, c.requires.before, c.exchange_first-saved.ensures.saved, c.ranges.before, c.exchange_first-saved.type_inv) in
     let ready = subst (IsReady c.args.ground.now.logs.now) (sym is) (ready_tried c.args.ground.now.logs.now c.args.ground.now.forward.now (docs_of c.args.a.now) (docs_of c.args.b.now) c.args.pairs c.args.degrees.now.loads (subst (IsReady c.args.ground.now.logs.now) c.requires.table c.requires.ready)) in
     let small = cost_small c.log_is_small.ensures.small new c.is_sound-2.ensures.sound ready.some_a ready.some_b in
     fits_wide (2 ^ 90) z (omega arith) (subst (IsWithin (2 ^ 90)) (sym z_is) small)
 
 pub loop-exchanged-init : goal.loop-exchanged-init
 loop-exchanged-init c =
-    let new = c.exchange-saved.new.degrees in
+    let new = c.exchange_first-saved.new.degrees in
     let forward = c.args.ground.now.forward.now in
     let a = docs_of c.args.a.now in
     let b = docs_of c.args.b.now in
-    let is = tried_first forward c.args.a.now c.args.b.now c.args.pairs c.args.degrees.now.loads c.args.degrees.now new c.exchange-saved.ensures.moved c.requires.table in
-    let z = to_z w128 (of_z w128 c.args.before) -ℤ to_z w128 (of_z w128 c.exchange-saved.result) in
-    let z_is : z ≡ cost_of new = omega (arith, ints, c.requires.before, c.exchange-saved.ensures.saved, c.ranges.before, c.exchange-saved.type_inv) in
+    let is = tried_first forward c.args.a.now c.args.b.now c.args.pairs c.args.degrees.now.loads c.args.degrees.now new c.exchange_first-saved.ensures.moved c.requires.table in
+    let z = to_z w128 (of_z w128 c.args.before) -ℤ to_z w128 (of_z w128 c.exchange_first-saved.result) in
+    let z_is : z ≡ cost_of new = omega (arith, ints, c.requires.before, c.exchange_first-saved.ensures.saved, c.ranges.before, c.exchange_first-saved.type_inv) in
     let ready = subst (IsReady c.args.ground.now.logs.now) (sym is) (ready_tried c.args.ground.now.logs.now forward a b c.args.pairs c.args.degrees.now.loads (subst (IsReady c.args.ground.now.logs.now) c.requires.table c.requires.ready)) in
     let small = cost_small c.log_is_small.ensures.small new c.is_sound-2.ensures.sound ready.some_a ready.some_b in
     let back = read_back_wide (2 ^ 90) z (omega arith) (subst (IsWithin (2 ^ 90)) (sym z_is) small) in
@@ -51,28 +51,28 @@ loop-exchanged-init c =
       number = (0, whole_first c.args.pairs, none_yet forward a b c.args.pairs (to_z w128 (of_z w128 c.args.before)));
     }
 
-pub exchange-saved-requires-in-loop-exchanged-clause-terms : goal.exchange-saved-requires-in-loop-exchanged-clause-terms
-exchange-saved-requires-in-loop-exchanged-clause-terms c =
+pub exchange-saved-requires-clause-terms : goal.exchange-saved-requires-clause-terms
+exchange-saved-requires-clause-terms c =
     ap (λ (t : Counted). length t.a) c.loop-exchanged.invariant.table ∙ tried_terms c.args.ground.now.forward.now (docs_of c.args.a.now) (docs_of c.args.b.now) c.loop-exchanged.exchanged c.args.degrees.now.loads
 
-pub exchange-saved-requires-in-loop-exchanged-clause-below : goal.exchange-saved-requires-in-loop-exchanged-clause-below
-exchange-saved-requires-in-loop-exchanged-clause-below c =
+pub exchange-saved-requires-clause-below : goal.exchange-saved-requires-clause-below
+exchange-saved-requires-clause-below c =
     All-range (λ (entry : Entry). entry.doc < length c.args.ground.now.forward.now.rows) c.args.b.now (c.loop-exchanged.exchanged / 2) c.loop-exchanged.exchanged c.requires.below_b
 
-pub exchange-saved-requires-in-loop-exchanged-clause-below_come : goal.exchange-saved-requires-in-loop-exchanged-clause-below_come
-exchange-saved-requires-in-loop-exchanged-clause-below_come c =
+pub exchange-saved-requires-clause-below_come : goal.exchange-saved-requires-clause-below_come
+exchange-saved-requires-clause-below_come c =
     All-range (λ (entry : Entry). entry.doc < length c.args.ground.now.forward.now.rows) c.args.a.now (c.loop-exchanged.exchanged / 2) c.loop-exchanged.exchanged c.requires.below
 
-pub exchange-saved-requires-in-loop-exchanged-clause-counted : goal.exchange-saved-requires-in-loop-exchanged-clause-counted
-exchange-saved-requires-in-loop-exchanged-clause-counted c =
+pub exchange-saved-requires-clause-counted : goal.exchange-saved-requires-clause-counted
+exchange-saved-requires-clause-counted c =
     counted_next_a c.args.ground.now.forward.now c.args.a.now c.args.b.now (c.loop-exchanged.exchanged / 2) c.loop-exchanged.exchanged c.args.degrees.now.loads c.loop-exchanged.degrees (omega arith) c.loop-exchanged.invariant.table
 
-pub exchange-saved-requires-in-loop-exchanged-clause-counted_come : goal.exchange-saved-requires-in-loop-exchanged-clause-counted_come
-exchange-saved-requires-in-loop-exchanged-clause-counted_come c =
+pub exchange-saved-requires-clause-counted_come : goal.exchange-saved-requires-clause-counted_come
+exchange-saved-requires-clause-counted_come c =
     counted_next_b c.args.ground.now.forward.now c.args.a.now c.args.b.now (c.loop-exchanged.exchanged / 2) c.loop-exchanged.exchanged c.args.degrees.now.loads c.loop-exchanged.degrees (omega arith) c.loop-exchanged.invariant.table
 
-pub exchange-saved-requires-in-loop-exchanged-clause-ready : goal.exchange-saved-requires-in-loop-exchanged-clause-ready
-exchange-saved-requires-in-loop-exchanged-clause-ready c =
+pub exchange-saved-requires-clause-ready : goal.exchange-saved-requires-clause-ready
+exchange-saved-requires-clause-ready c =
     subst (IsReady c.args.ground.now.logs.now) (sym c.loop-exchanged.invariant.table) (ready_tried c.args.ground.now.logs.now c.args.ground.now.forward.now (docs_of c.args.a.now) (docs_of c.args.b.now) c.loop-exchanged.exchanged c.args.degrees.now.loads (subst (IsReady c.args.ground.now.logs.now) c.requires.table c.requires.ready))
 
 pub overflow_sub-after : goal.overflow_sub-after
@@ -83,11 +83,11 @@ overflow_sub-after c =
     let top = c.args.ground.now.logs.now in
     let m = c.loop-exchanged.exchanged in
     let f = c.loop-exchanged.exchanged / 2 in
-    let new = c.exchange-saved-in-loop-exchanged.new.degrees in
-    let is = tried_next forward c.args.a.now c.args.b.now f m c.args.degrees.now.loads c.loop-exchanged.degrees new (omega arith) c.exchange-saved-in-loop-exchanged.ensures.moved c.loop-exchanged.invariant.table in
+    let new = c.exchange-saved.new.degrees in
+    let is = tried_next forward c.args.a.now c.args.b.now f m c.args.degrees.now.loads c.loop-exchanged.degrees new (omega arith) c.exchange-saved.ensures.moved c.loop-exchanged.invariant.table in
     let was = ap cost_of c.loop-exchanged.invariant.table in
-    let z = to_z w128 c.loop-exchanged.after-bits -ℤ to_z w128 (of_z w128 c.exchange-saved-in-loop-exchanged.result) in
-    let z_is : z ≡ cost_of new = omega (arith, ints, c.loop-exchanged.invariant.after, was, c.exchange-saved-in-loop-exchanged.ensures.saved, c.exchange-saved-in-loop-exchanged.type_inv) in
+    let z = to_z w128 c.loop-exchanged.after-bits -ℤ to_z w128 (of_z w128 c.exchange-saved.result) in
+    let z_is : z ≡ cost_of new = omega (arith, ints, c.loop-exchanged.invariant.after, was, c.exchange-saved.ensures.saved, c.exchange-saved.type_inv) in
     let ready = subst (IsReady top) (sym is) (ready_tried top forward a b f c.args.degrees.now.loads (subst (IsReady top) c.requires.table c.requires.ready)) in
     let small = cost_small c.log_is_small.ensures.small new c.is_sound-in-loop-exchanged-2.ensures.sound ready.some_a ready.some_b in
     fits_wide (2 ^ 90) z (omega arith) (subst (IsWithin (2 ^ 90)) (sym z_is) small)
@@ -100,11 +100,11 @@ loop-exchanged-preserved c =
     let top = c.args.ground.now.logs.now in
     let m = c.loop-exchanged.exchanged in
     let f = c.loop-exchanged.exchanged / 2 in
-    let new = c.exchange-saved-in-loop-exchanged.new.degrees in
-    let is = tried_next forward c.args.a.now c.args.b.now f m c.args.degrees.now.loads c.loop-exchanged.degrees new (omega arith) c.exchange-saved-in-loop-exchanged.ensures.moved c.loop-exchanged.invariant.table in
+    let new = c.exchange-saved.new.degrees in
+    let is = tried_next forward c.args.a.now c.args.b.now f m c.args.degrees.now.loads c.loop-exchanged.degrees new (omega arith) c.exchange-saved.ensures.moved c.loop-exchanged.invariant.table in
     let was = ap cost_of c.loop-exchanged.invariant.table in
-    let z = to_z w128 c.loop-exchanged.after-bits -ℤ to_z w128 (of_z w128 c.exchange-saved-in-loop-exchanged.result) in
-    let z_is : z ≡ cost_of new = omega (arith, ints, c.loop-exchanged.invariant.after, was, c.exchange-saved-in-loop-exchanged.ensures.saved, c.exchange-saved-in-loop-exchanged.type_inv) in
+    let z = to_z w128 c.loop-exchanged.after-bits -ℤ to_z w128 (of_z w128 c.exchange-saved.result) in
+    let z_is : z ≡ cost_of new = omega (arith, ints, c.loop-exchanged.invariant.after, was, c.exchange-saved.ensures.saved, c.exchange-saved.type_inv) in
     let ready = subst (IsReady top) (sym is) (ready_tried top forward a b f c.args.degrees.now.loads (subst (IsReady top) c.requires.table c.requires.ready)) in
     let small = cost_small c.log_is_small.ensures.small new c.is_sound-in-loop-exchanged-2.ensures.sound ready.some_a ready.some_b in
     let back = read_back_wide (2 ^ 90) z (omega arith) (subst (IsWithin (2 ^ 90)) (sym z_is) small) in
@@ -120,16 +120,16 @@ loop-exchanged-preserved c =
 
 pub returns-else-before-after-clause-first : goal.returns-else-before-after-clause-first
 returns-else-before-after-clause-first c =
-    let new = c.exchange-saved.new.degrees in
+    let new = c.exchange_first-saved.new.degrees in
     let forward = c.args.ground.now.forward.now in
     let a = docs_of c.args.a.now in
     let b = docs_of c.args.b.now in
     let pairs = c.args.pairs in
-    let is = tried_first forward c.args.a.now c.args.b.now pairs c.args.degrees.now.loads c.args.degrees.now new c.exchange-saved.ensures.moved c.requires.table in
+    let is = tried_first forward c.args.a.now c.args.b.now pairs c.args.degrees.now.loads c.args.degrees.now new c.exchange_first-saved.ensures.moved c.requires.table in
     let before = to_z w128 (of_z w128 c.args.before) in
     let before_is : before ≡ c.args.before = omega (arith, ints, c.ranges.before) in
-    let z = before -ℤ to_z w128 (of_z w128 c.exchange-saved.result) in
-    let z_is : z ≡ cost_of new = omega (arith, ints, c.requires.before, c.exchange-saved.ensures.saved, c.ranges.before, c.exchange-saved.type_inv) in
+    let z = before -ℤ to_z w128 (of_z w128 c.exchange_first-saved.result) in
+    let z_is : z ≡ cost_of new = omega (arith, ints, c.requires.before, c.exchange_first-saved.ensures.saved, c.ranges.before, c.exchange_first-saved.type_inv) in
     let ready = subst (IsReady c.args.ground.now.logs.now) (sym is) (ready_tried c.args.ground.now.logs.now forward a b pairs c.args.degrees.now.loads (subst (IsReady c.args.ground.now.logs.now) c.requires.table c.requires.ready)) in
     let small = cost_small c.log_is_small.ensures.small new c.is_sound-2.ensures.sound ready.some_a ready.some_b in
     let back = read_back_wide (2 ^ 90) z (omega arith) (subst (IsWithin (2 ^ 90)) (sym z_is) small) in
@@ -145,16 +145,16 @@ returns-else-before-after-clause-first c =
 
 pub returns-after-loop-exchanged-clause-first : goal.returns-after-loop-exchanged-clause-first
 returns-after-loop-exchanged-clause-first c =
-    let new = c.exchange-saved.new.degrees in
+    let new = c.exchange_first-saved.new.degrees in
     let forward = c.args.ground.now.forward.now in
     let a = docs_of c.args.a.now in
     let b = docs_of c.args.b.now in
     let pairs = c.args.pairs in
-    let is = tried_first forward c.args.a.now c.args.b.now pairs c.args.degrees.now.loads c.args.degrees.now new c.exchange-saved.ensures.moved c.requires.table in
+    let is = tried_first forward c.args.a.now c.args.b.now pairs c.args.degrees.now.loads c.args.degrees.now new c.exchange_first-saved.ensures.moved c.requires.table in
     let before = to_z w128 (of_z w128 c.args.before) in
     let before_is : before ≡ c.args.before = omega (arith, ints, c.ranges.before) in
-    let z = before -ℤ to_z w128 (of_z w128 c.exchange-saved.result) in
-    let z_is : z ≡ cost_of new = omega (arith, ints, c.requires.before, c.exchange-saved.ensures.saved, c.ranges.before, c.exchange-saved.type_inv) in
+    let z = before -ℤ to_z w128 (of_z w128 c.exchange_first-saved.result) in
+    let z_is : z ≡ cost_of new = omega (arith, ints, c.requires.before, c.exchange_first-saved.ensures.saved, c.ranges.before, c.exchange_first-saved.type_inv) in
     let ready = subst (IsReady c.args.ground.now.logs.now) (sym is) (ready_tried c.args.ground.now.logs.now forward a b pairs c.args.degrees.now.loads (subst (IsReady c.args.ground.now.logs.now) c.requires.table c.requires.ready)) in
     let small = cost_small c.log_is_small.ensures.small new c.is_sound-2.ensures.sound ready.some_a ready.some_b in
     let back = read_back_wide (2 ^ 90) z (omega arith) (subst (IsWithin (2 ^ 90)) (sym z_is) small) in
