@@ -7,3 +7,8 @@ pub mod Sorting
 pub mod Pieces
 pub mod Stored
 pub mod Searching
+pub mod Fronts
+pub mod Gapped
+pub mod Regions
+pub mod Writing
+pub mod Appending

@@ -5,3 +5,5 @@ pub mod Stores
 pub mod Places
 pub mod Pieces
 pub mod Plain
+pub mod Blocks
+pub mod BlockTables

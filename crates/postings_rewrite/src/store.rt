@@ -10,9 +10,9 @@ ghost use Rattle.postings_rewrite.specs.Places.{start, StandsIn, IsNext};
 pub struct Place {
     /// The number of the entry.
     pub(crate) entry: u32,
-    /// Where its bytes begin in its block, where it isn't the block's first entry.
+    /// Where its gap begins in a block store, counted in bytes from the list's first gap.
     pub(crate) bytes: u32,
-    /// The entry before it in its block.
+    /// The least number that the entry can have there: one more than the entry before it.
     pub(crate) before: u32,
 }
 

@@ -2,6 +2,8 @@
 #![tactic(auto)]
 
 #[cfg(test)]
+mod lengths;
+#[cfg(test)]
 mod long;
 #[cfg(test)]
 mod searches;

@@ -1,6 +1,6 @@
 //! Stores of a list of 300 documents: more than two blocks of 128.
 use crate::searches::{Search, from_the_start};
-use postings_rewrite::{Place, PlainStore, PostingStore};
+use postings_rewrite::{BlockStore, Place, PlainStore, PostingStore};
 use rgb_base::{DocRecord, Header, Index, Posting, Postings, TermList, Text};
 use std::alloc::{AllocError, Global};
 use std::test::Fail;
@@ -112,6 +112,27 @@ fn a_plain_store_finds_each_target(rt: HostRuntime) -> Result<(), Fail> {
 #[test]
 fn a_plain_store_finds_each_target_in_turn(rt: HostRuntime) -> Result<(), Fail> {
     let store = PlainStore::new(rt.alloc(), &long(rt.alloc())?)?;
+    assert!(rt; finds_each_in_turn(&store, 1) && finds_each_in_turn(&store, 200));
+    Ok(())
+}
+
+#[test]
+fn a_block_store_is_searched_at_the_blocks(rt: HostRuntime) -> Result<(), Fail> {
+    let store = BlockStore::new(rt.alloc(), &long(rt.alloc())?)?;
+    assert!(rt; from_the_start(&store, 0, &AT_BLOCKS));
+    Ok(())
+}
+
+#[test]
+fn a_block_store_finds_each_target(rt: HostRuntime) -> Result<(), Fail> {
+    let store = BlockStore::new(rt.alloc(), &long(rt.alloc())?)?;
+    assert!(rt; finds_each(&store));
+    Ok(())
+}
+
+#[test]
+fn a_block_store_finds_each_target_in_turn(rt: HostRuntime) -> Result<(), Fail> {
+    let store = BlockStore::new(rt.alloc(), &long(rt.alloc())?)?;
     assert!(rt; finds_each_in_turn(&store, 1) && finds_each_in_turn(&store, 200));
     Ok(())
 }

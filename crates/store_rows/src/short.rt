@@ -1,6 +1,6 @@
 //! Stores of an index of six documents.
 use crate::searches::{Search, from_the_start, has_sizes, one_after_another};
-use postings_rewrite::PlainStore;
+use postings_rewrite::{BlockStore, PlainStore};
 use rgb_base::Index;
 use small_indexes::{index_of, order_of};
 use std::alloc::Global;
@@ -55,6 +55,27 @@ fn plain_by<R: Threads + Sync>(
     Ok(true)
 }
 
+/// The same in a block store.
+fn blocks_by<R: Threads + Sync>(
+    rt: &R,
+    alloc: Global,
+    order: &str,
+    searches: &[Search],
+) -> Result<bool, Fail> {
+    let index = six(alloc)?;
+    let by = order_of(alloc, order)?;
+    if by.len() != index.documents() {
+        return Ok(false);
+    }
+    for workers in [1, 2, 64] {
+        let store = BlockStore::renumbered(rt, alloc, &index, &by, workers)?;
+        if !from_the_start(&store, 0, searches) {
+            return Ok(false);
+        }
+    }
+    Ok(true)
+}
+
 #[test]
 fn a_plain_store_has_its_sizes(rt: HostRuntime) -> Result<(), Fail> {
     let store = PlainStore::new(rt.alloc(), &six(rt.alloc())?)?;
@@ -80,5 +101,33 @@ fn a_plain_store_is_searched_on(rt: HostRuntime) -> Result<(), Fail> {
 fn a_plain_store_is_renumbered(rt: HostRuntime) -> Result<(), Fail> {
     assert!(rt; plain_by(&rt, rt.alloc(), "013245", &RENUMBERED)?);
     assert!(rt; plain_by(&rt, rt.alloc(), "012345", &FIRST)?);
+    Ok(())
+}
+
+#[test]
+fn a_block_store_has_its_sizes(rt: HostRuntime) -> Result<(), Fail> {
+    let store = BlockStore::new(rt.alloc(), &six(rt.alloc())?)?;
+    assert!(rt; has_sizes(&store, 2, 6, 1, 3));
+    Ok(())
+}
+
+#[test]
+fn a_block_store_is_searched_from_the_start(rt: HostRuntime) -> Result<(), Fail> {
+    let store = BlockStore::new(rt.alloc(), &six(rt.alloc())?)?;
+    assert!(rt; from_the_start(&store, 0, &FIRST));
+    Ok(())
+}
+
+#[test]
+fn a_block_store_is_searched_on(rt: HostRuntime) -> Result<(), Fail> {
+    let store = BlockStore::new(rt.alloc(), &six(rt.alloc())?)?;
+    assert!(rt; one_after_another(&store, 0, &AGAIN));
+    Ok(())
+}
+
+#[test]
+fn a_block_store_is_renumbered(rt: HostRuntime) -> Result<(), Fail> {
+    assert!(rt; blocks_by(&rt, rt.alloc(), "013245", &RENUMBERED)?);
+    assert!(rt; blocks_by(&rt, rt.alloc(), "012345", &FIRST)?);
     Ok(())
 }
