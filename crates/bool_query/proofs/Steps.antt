@@ -3,10 +3,10 @@ use Rattle.std.proofs.Common.{◌≡◌, ◌≢◌, ℕ, Bool, false, IsTrue, Li
 use Rattle.std.proofs.lemmas.List.{append-nil, map-append, length-map}
 use Rattle.std.proofs.lemmas.Bool.{false≢true}
 use Rattle.bool_query.specs.Token.{Token, term, open_paren, close_paren, and_word, or_word, not_word}
-use Rattle.bool_query.specs.Tree.{Tree, of_term, negation, conjoined, disjoined}
+use Rattle.bool_query.specs.Tree.{Tree, of_term, negation}
 use Rattle.bool_query.specs.Grammar.{Derives, any, all, not, some_all, some_not, not_not, not_atom, one_term, in_parens, AreAlls, one_all, next_all, AreNots, one_not, next_not}
 use Rattle.bool_query.specs.Fault.{opens, AreOpen, IsInnermost, HasOpenParen, asks, needs_operand, IsAllowed, IsTokenFault, AreSound}
-use Rattle.bool_query.specs.State.{Frame, AreBeforeOr, no_or, some_or, AreBeforeAnd, no_and, some_and, IsLevel, is_not, last_negates, IsState, innermost, within, Waits, Holds}
+use Rattle.bool_query.specs.State.{Frame, AreBeforeOr, no_or, some_or, AreBeforeAnd, no_and, some_and, IsLevel, is_not, last_negates, IsState, innermost, within, whole_all, whole_any, Waits, Holds}
 use Rattle.bool_query.specs.declared.error.QueryCause.{QueryCause}
 use Rattle.bool_query.specs.declared.error.QueryCause.TheVariants.{Ended, Unexpected, OpenQuote, OpenParen, TooDeep}
 use Rattle.bool_query.proofs.Closed.{open_once}
@@ -14,7 +14,7 @@ use Rattle.bool_query.proofs.States.{no_tail, operand_tail, tokens_of, open_stat
 
 -- lists with one token more
 
-no_nil : (before behind : List Token) (token : Token) → [] ≡ before ++ token ∷ behind → ⊥
+pub no_nil : (before behind : List Token) (token : Token) → [] ≡ before ++ token ∷ behind → ⊥
 no_nil [] behind token e = cc
 no_nil (t ∷ before) behind token e = cc
 
@@ -97,7 +97,7 @@ relevel (within {negates = negates} {frame = frame} {frames = frames} {behind = 
     subst (IsState negates (frame ∷ frames) alls' nots') (sym (append_assoc front (frame.token ∷ behind) more))
     (within front level empty o (relevel inner other more alls' nots' next))
 
-last_more : (negates : Bool) (frames : List Frame) (frame : Frame) → last_negates negates (frames ++ frame ∷ []) ≡ is_not frame.token
+pub last_more : (negates : Bool) (frames : List Frame) (frame : Frame) → last_negates negates (frames ++ frame ∷ []) ≡ is_not frame.token
 last_more negates [] frame = refl
 last_more negates (f ∷ frames) frame = last_more (is_not f.token) frames frame
 
@@ -112,13 +112,6 @@ or_any : {tokens own : List Token} {trees : List Tree} {tree : Tree} → AreBefo
 or_any no_or derived = one_all derived
 or_any {own = own} {tree = tree} (some_or {tokens = inner} {parts = parts} at before) derived =
     subst (λ (l : List Token). AreAlls l (parts ++ tree ∷ [])) (sym (append_assoc inner (or_word at ∷ []) own)) (next_all at before derived)
-
--- what an operand completes: its `all`, and its `any`
-abbrev pub whole_all : List Tree → Tree → Tree
-whole_all nots tree = conjoined (nots ++ tree ∷ [])
-
-abbrev pub whole_any : List Tree → List Tree → Tree → Tree
-whole_any alls nots tree = disjoined (alls ++ whole_all nots tree ∷ [])
 
 level_any : {inner own : List Token} {alls nots : List Tree} {tree : Tree} → IsLevel inner alls nots → Derives not own tree → Derives any (inner ++ own) (whole_any alls nots tree)
 level_any {inner} {own} {alls} {nots} {tree} level derived =

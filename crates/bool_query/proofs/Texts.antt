@@ -6,11 +6,11 @@ use Rattle.bool_query.specs.Token.{Token, is_blank, is_word_byte, AreBlank, Spel
 use Rattle.bool_query.specs.Scan.{IsToken, IsOpenQuote}
 
 -- the last byte behind a byte
-abbrev final : ℕ → List ℕ → ℕ
+abbrev pub final : ℕ → List ℕ → ℕ
 final byte [] = byte
 final byte (b ∷ bs) = final b bs
 
-final_last : (front : List ℕ) (byte last : ℕ) → final byte (front ++ last ∷ []) ≡ last
+pub final_last : (front : List ℕ) (byte last : ℕ) → final byte (front ++ last ∷ []) ≡ last
 final_last [] byte last = refl
 final_last (b ∷ front) byte last = final_last front b last
 
@@ -67,7 +67,7 @@ seam_more before (s ∷ ss) behind filled seam = λ w.
       first_in_word = w.first_in_word;
     })
 
-spells_some : {spelling : List ℕ} {at : ℕ} {token : Token} → Spells spelling at token → 0 < length spelling
+pub spells_some : {spelling : List ℕ} {at : ℕ} {token : Token} → Spells spelling at token → 0 < length spelling
 spells_some paren_opens = omega arith
 spells_some paren_closes = omega arith
 spells_some (quoted none) = omega arith

@@ -6,3 +6,10 @@ pub mod Meaning
 pub mod View
 pub mod State
 pub mod Scan
+pub mod Scanned
+pub mod Laws
+pub mod Parser
+pub mod Answers
+pub mod Scopes
+pub mod Dictionary
+pub mod AnswerLaws

@@ -13,7 +13,7 @@ abbrev mutual
       (doc < documents) × (¬ IsMeant posted documents part doc)
 
   pub IsInEvery : (List ℕ → ℕ → Type 0) → ℕ → Trees → ℕ → Type 0
-  IsInEvery posted documents no_trees doc = Unit {0}
+  IsInEvery posted documents no_trees doc = doc < documents
   IsInEvery posted documents (tree part parts) doc =
       IsMeant posted documents part doc × IsInEvery posted documents parts doc
 

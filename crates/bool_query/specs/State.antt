@@ -2,7 +2,7 @@
 -- These are what the parser keeps true. What it promises stands in Fault.
 use Rattle.std.specs.Prelude.{◌≡◌, ℕ, Bool, true, false, IsTrue, List, [], ◌∷◌, ◌++◌}
 use Rattle.bool_query.specs.Token.{Token, term, open_paren, close_paren, and_word, or_word, not_word}
-use Rattle.bool_query.specs.Tree.{Tree}
+use Rattle.bool_query.specs.Tree.{Tree, conjoined, disjoined}
 use Rattle.bool_query.specs.Grammar.{Derives, not, AreAlls, AreNots}
 use Rattle.bool_query.specs.Fault.{opens, needs_operand, AreSound}
 
@@ -39,6 +39,13 @@ is_not (close_paren at) = false
 is_not (and_word at) = false
 is_not (or_word at) = false
 is_not (not_word at) = true
+
+-- what an operand completes behind those of its level: its `all`, and its `any`
+abbrev pub whole_all : List Tree → Tree → Tree
+whole_all nots operand = conjoined (nots ++ operand ∷ [])
+
+abbrev pub whole_any : List Tree → List Tree → Tree → Tree
+whole_any alls nots operand = disjoined (alls ++ whole_all nots operand ∷ [])
 
 -- the last of the frames is a `NOT`, where what stands before the first is one or not
 abbrev pub last_negates : Bool → List Frame → Bool

@@ -1,5 +1,5 @@
 -- What contracts see of the queries of the code.
-use Rattle.std.specs.Prelude.{List}
+use Rattle.std.specs.Prelude.{List, map}
 use Rattle.bool_query.specs.Tree.{Tree, of_term, conjunction, disjunction, negation, row}
 use Rattle.bool_query.specs.declared.query.Query.{Query}
 use Rattle.bool_query.specs.declared.query.Query.TheOpen.{Query-F, Parts-F, Term, All, Any, Not}
@@ -27,3 +27,7 @@ trees_of = fold-Parts Tree (List Tree) tree_step trees_step
 -- parts as the list of them
 abbrev pub queries_of : Parts → List Query
 queries_of parts = (out-Parts parts).value.items
+
+-- queries as the list of their trees
+abbrev pub trees : List Query → List Tree
+trees queries = map tree_of queries

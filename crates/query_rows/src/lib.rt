@@ -1,0 +1,5 @@
+//! Answers to queries over both kinds of store, worked out by hand.
+#![tactic(auto)]
+
+#[cfg(test)]
+mod answers;
