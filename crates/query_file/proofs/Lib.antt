@@ -1,0 +1,4 @@
+pub mod Feeds
+pub mod Takings
+pub mod Pieces
+pub mod Verdicts
