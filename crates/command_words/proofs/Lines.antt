@@ -3,7 +3,7 @@ use Rattle.std.proofs.Common.{◌≡◌, ◌⊎◌, ◌↔◌, ℕ, Bool, true, 
 use Rattle.std.proofs.lemmas.Option.{same_Some, none-some}
 use Rattle.command_words.specs.Line.{Word, Part, OptionRow, Finds, Means, OfParts, operands_of, values_of, ComesTo, ComeTo, Follow}
 use Rattle.command_words.specs.declared.reordering.Reordering.{Reordering}
-use Rattle.command_words.specs.Command.{Command, copy, report, reorder, make, copy_row, report_row, reorder_row, make_row, number_option, document_counts, workers_option, depth_option, rounds_option, leaf_option, step_option, min_df_option, start_option, reordering_options, numbers_of, IsCommand, SpellsOnly, Answers}
+use Rattle.command_words.specs.Command.{Command, copy, report, reorder, query, make, copy_row, report_row, reorder_row, query_row, make_row, number_option, document_counts, workers_option, depth_option, rounds_option, leaf_option, step_option, min_df_option, start_option, reordering_options, numbers_of, IsCommand, SpellsOnly, Answers}
 use Rattle.command_words.proofs.Parting.{same_behind, two_operands, one_operand_name}
 
 -- the operand at a place is this
@@ -29,6 +29,7 @@ only_copy words input output first second (copy i o) line =
     ap (λ n. copy n o) (sym one) ∙ ap (copy input) (sym two)
 only_copy words input output first second (report i w) line = let e : copy_row.name ∷ words ≡ report_row.name ∷ line.behind = line.named in absurd (cc)
 only_copy words input output first second (reorder i o k) line = let e : copy_row.name ∷ words ≡ reorder_row.name ∷ line.behind = line.named in absurd (cc)
+only_copy words input output first second (query i q) line = let e : copy_row.name ∷ words ≡ query_row.name ∷ line.behind = line.named in absurd (cc)
 only_copy words input output first second (make d o n k) line = absurd (copy_is_not_make words line.line.behind line.line.named)
 
 pub copy_line : (words : List Word) (input output : Word) → Follow 2 [] words → Operand words 0 input → Operand words 1 output → SpellsOnly (copy_row.name ∷ words) (copy input output)
@@ -43,6 +44,30 @@ copy_line words input output follow first second = record {
   only = only_copy words input output first second;
 }
 
+only_query : (words : List Word) (input queries : Word) → Operand words 0 input → Operand words 1 queries
+    → (other : Command) → IsCommand (query_row.name ∷ words) other → other ≡ query input queries
+only_query words input queries first second (query i q) line =
+    let are = same_behind query_row.name words line.behind line.follow.parts line.named line.follow.whole in
+    let one : input ≡ i = same_Some input i (first line.follow.parts are ∙ ap (λ ns. slice_get ns 0) line.operands) in
+    let two : queries ≡ q = same_Some queries q (second line.follow.parts are ∙ ap (λ ns. slice_get ns 1) line.operands) in
+    ap (λ n. query n q) (sym one) ∙ ap (query input) (sym two)
+only_query words input queries first second (copy i o) line = let e : query_row.name ∷ words ≡ copy_row.name ∷ line.behind = line.named in absurd (cc)
+only_query words input queries first second (report i w) line = let e : query_row.name ∷ words ≡ report_row.name ∷ line.behind = line.named in absurd (cc)
+only_query words input queries first second (reorder i o k) line = let e : query_row.name ∷ words ≡ reorder_row.name ∷ line.behind = line.named in absurd (cc)
+only_query words input queries first second (make d o n k) line = let e : query_row.name ∷ words ≡ make_row.name ∷ line.line.behind = line.line.named in absurd (cc)
+
+pub query_line : (words : List Word) (input queries : Word) → Follow 2 [] words → Operand words 0 input → Operand words 1 queries → SpellsOnly (query_row.name ∷ words) (query input queries)
+query_line words input queries follow first second = record {
+  spelt = record {
+    behind = words;
+    named = refl;
+    follow = follow;
+    operands = two_operands (operands_of follow.parts) input queries follow.count (first follow.parts follow.whole) (second follow.parts follow.whole);
+    options = tt;
+  };
+  only = only_query words input queries first second;
+}
+
 only_report : (words : List Word) (input : Word) (workers : ℕ) → Operand words 0 input → Workers words (Some workers)
     → (other : Command) → IsCommand (report_row.name ∷ words) other → other ≡ report input workers
 only_report words input workers first value (report i w) line =
@@ -52,6 +77,7 @@ only_report words input workers first value (report i w) line =
     ap (λ n. report n w) (sym one) ∙ ap (report input) (sym two)
 only_report words input workers first value (copy i o) line = let e : report_row.name ∷ words ≡ copy_row.name ∷ line.behind = line.named in absurd (cc)
 only_report words input workers first value (reorder i o k) line = let e : report_row.name ∷ words ≡ reorder_row.name ∷ line.behind = line.named in absurd (cc)
+only_report words input workers first value (query i q) line = let e : report_row.name ∷ words ≡ query_row.name ∷ line.behind = line.named in absurd (cc)
 only_report words input workers first value (make d o n k) line = let e : report_row.name ∷ words ≡ make_row.name ∷ line.line.behind = line.line.named in absurd (cc)
 
 pub report_line : (words : List Word) (input : Word) (workers : ℕ) → Follow 1 (workers_option ∷ []) words → Operand words 0 input → Workers words (Some workers)
@@ -73,6 +99,7 @@ no_workers words none (report i w) line =
     none-some w ((none line.follow.parts are w).1 line.options.0)
 no_workers words none (copy i o) line = let e : report_row.name ∷ words ≡ copy_row.name ∷ line.behind = line.named in absurd (cc)
 no_workers words none (reorder i o k) line = let e : report_row.name ∷ words ≡ reorder_row.name ∷ line.behind = line.named in absurd (cc)
+no_workers words none (query i q) line = let e : report_row.name ∷ words ≡ query_row.name ∷ line.behind = line.named in absurd (cc)
 no_workers words none (make d o n k) line = let e : report_row.name ∷ words ≡ make_row.name ∷ line.line.behind = line.line.named in absurd (cc)
 
 -- ---- the options of a reordering
@@ -182,6 +209,7 @@ only_reorder words input output options first second all (reorder i o k) line =
     ap (λ n. reorder n o k) (sym one) ∙ ap (λ n. reorder input n k) (sym two) ∙ ap (reorder input output) (sym three)
 only_reorder words input output options first second all (copy i o) line = let e : reorder_row.name ∷ words ≡ copy_row.name ∷ line.behind = line.named in absurd (cc)
 only_reorder words input output options first second all (report i w) line = let e : reorder_row.name ∷ words ≡ report_row.name ∷ line.behind = line.named in absurd (cc)
+only_reorder words input output options first second all (query i q) line = let e : reorder_row.name ∷ words ≡ query_row.name ∷ line.behind = line.named in absurd (cc)
 only_reorder words input output options first second all (make d o n k) line = let e : reorder_row.name ∷ words ≡ make_row.name ∷ line.line.behind = line.line.named in absurd (cc)
 
 pub reorder_line : (words : List Word) (input output : Word) (options : Reordering) → Follow 2 reordering_options words → Operand words 0 input → Operand words 1 output → Reorders words (Some options)
@@ -203,6 +231,7 @@ no_reordering words none (reorder i o k) line =
     none-some k ((none line.follow.parts are k).1 line.options)
 no_reordering words none (copy i o) line = let e : reorder_row.name ∷ words ≡ copy_row.name ∷ line.behind = line.named in absurd (cc)
 no_reordering words none (report i w) line = let e : reorder_row.name ∷ words ≡ report_row.name ∷ line.behind = line.named in absurd (cc)
+no_reordering words none (query i q) line = let e : reorder_row.name ∷ words ≡ query_row.name ∷ line.behind = line.named in absurd (cc)
 no_reordering words none (make d o n k) line = let e : reorder_row.name ∷ words ≡ make_row.name ∷ line.line.behind = line.line.named in absurd (cc)
 
 -- ---- the words behind `make`
@@ -225,6 +254,7 @@ only_make words count documents output number options first found second drawn a
 only_make words count documents output number options first found second drawn all (copy i o) line = absurd (copy_is_not_make line.behind words (sym line.named))
 only_make words count documents output number options first found second drawn all (report i w) line = let e : make_row.name ∷ words ≡ report_row.name ∷ line.behind = line.named in absurd (cc)
 only_make words count documents output number options first found second drawn all (reorder i o k) line = let e : make_row.name ∷ words ≡ reorder_row.name ∷ line.behind = line.named in absurd (cc)
+only_make words count documents output number options first found second drawn all (query i q) line = let e : make_row.name ∷ words ≡ query_row.name ∷ line.behind = line.named in absurd (cc)
 
 pub make_line : (words : List Word) (count : Word) (documents : ℕ) (output : Word) (number : ℕ) (options : Reordering) → Follow 2 (number_option ∷ reordering_options) words → Operand words 0 count
     → Finds (Some documents) (Means document_counts count) → Operand words 1 output → Numbers words (Some number) → Reorders words (Some options)
@@ -253,6 +283,7 @@ no_documents words count first none (make d o n k) spelt =
 no_documents words count first none (copy i o) line = absurd (copy_is_not_make line.behind words (sym line.named))
 no_documents words count first none (report i w) line = let e : make_row.name ∷ words ≡ report_row.name ∷ line.behind = line.named in absurd (cc)
 no_documents words count first none (reorder i o k) line = let e : make_row.name ∷ words ≡ reorder_row.name ∷ line.behind = line.named in absurd (cc)
+no_documents words count first none (query i q) line = let e : make_row.name ∷ words ≡ query_row.name ∷ line.behind = line.named in absurd (cc)
 
 pub no_number : (words : List Word) → Numbers words None → Answers (make_row.name ∷ words) None
 no_number words none (make d o n k) spelt =
@@ -262,6 +293,7 @@ no_number words none (make d o n k) spelt =
 no_number words none (copy i o) line = absurd (copy_is_not_make line.behind words (sym line.named))
 no_number words none (report i w) line = let e : make_row.name ∷ words ≡ report_row.name ∷ line.behind = line.named in absurd (cc)
 no_number words none (reorder i o k) line = let e : make_row.name ∷ words ≡ reorder_row.name ∷ line.behind = line.named in absurd (cc)
+no_number words none (query i q) line = let e : make_row.name ∷ words ≡ query_row.name ∷ line.behind = line.named in absurd (cc)
 
 pub no_made_reordering : (words : List Word) → Reorders words None → Answers (make_row.name ∷ words) None
 no_made_reordering words none (make d o n k) spelt =
@@ -271,3 +303,4 @@ no_made_reordering words none (make d o n k) spelt =
 no_made_reordering words none (copy i o) line = absurd (copy_is_not_make line.behind words (sym line.named))
 no_made_reordering words none (report i w) line = let e : make_row.name ∷ words ≡ report_row.name ∷ line.behind = line.named in absurd (cc)
 no_made_reordering words none (reorder i o k) line = let e : make_row.name ∷ words ≡ reorder_row.name ∷ line.behind = line.named in absurd (cc)
+no_made_reordering words none (query i q) line = let e : make_row.name ∷ words ≡ query_row.name ∷ line.behind = line.named in absurd (cc)

@@ -69,6 +69,10 @@ report_row = record { name = codes "report"; operands = 1; options = workers_opt
 abbrev pub reorder_row : Row
 reorder_row = record { name = codes "reorder"; operands = 2; options = reordering_options }
 
+-- query IN QUERIES
+abbrev pub query_row : Row
+query_row = record { name = codes "query"; operands = 2; options = [] }
+
 -- make N OUT
 abbrev pub make_row : Row
 make_row =
@@ -81,6 +85,8 @@ pub data Command : Type 0 where
   report : Word → ℕ → Command
   -- of IN and OUT, with these options
   reorder : Word → Word → Reordering → Command
+  -- of IN and QUERIES
+  query : Word → Word → Command
   -- of so many documents and OUT, drawn from a number, with these options
   make : ℕ → Word → ℕ → Reordering → Command
 
@@ -98,6 +104,7 @@ IsCommand words (copy input output) = IsLine copy_row words (input ∷ output �
 IsCommand words (report input workers) = IsLine report_row words (input ∷ []) (workers ∷ [])
 IsCommand words (reorder input output options) =
     IsLine reorder_row words (input ∷ output ∷ []) (numbers_of options)
+IsCommand words (query input queries) = IsLine query_row words (input ∷ queries ∷ []) []
 IsCommand words (make documents output number options) =
     IsMake words documents output number options
 

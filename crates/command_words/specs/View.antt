@@ -1,6 +1,6 @@
 -- The commands and the table of the code as those of the definitions.
 use Rattle.std.specs.Prelude.{map}
-use Rattle.command_words.specs.Command.{Command, copy, report, reorder, make}
+use Rattle.command_words.specs.Command.{Command, copy, report, reorder, query, make}
 use Rattle.command_words.specs.Line.{Values, range, either, OptionRow, Row, Part, operand, given}
 use Rattle.command_words.specs.declared.command.Command as code
 use Rattle.command_words.specs.declared.command.Command.TheVariants as commands
@@ -15,6 +15,7 @@ abbrev pub command_seen : code.Command → Command
 command_seen (commands.Copy input output) = copy input.now output.now
 command_seen (commands.Report input workers) = report input.now workers
 command_seen (commands.Reorder input output options) = reorder input.now output.now options
+command_seen (commands.Query input queries) = query input.now queries.now
 command_seen (commands.Make documents output number options) =
     make documents output.now number options
 

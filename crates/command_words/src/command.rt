@@ -1,15 +1,15 @@
 //! The commands that words spell.
 ghost use Rattle.std.specs.Prelude.{◌≡◌, ◌↔◌, ◌∷◌, Some, option_map};
 ghost use Rattle.command_words.specs.Line.{OfParts, ComeTo};
-ghost use Rattle.command_words.specs.Command.{Answers, copy_row, report_row, reorder_row, make_row, reordering_options, numbers_of, texts_of};
+ghost use Rattle.command_words.specs.Command.{Answers, copy_row, report_row, reorder_row, query_row, make_row, reordering_options, numbers_of, texts_of};
 ghost use Rattle.command_words.specs.View.{command_seen};
 
 use crate::number::meaning;
 use crate::part::{follow, operand, value_of};
 use crate::reordering::Reordering;
 use crate::table::{
-    COPY, DEPTH, DOCUMENTS, LEAF, MAKE, MIN_DF, NUMBER, REORDER, REPORT, ROUNDS, START, STEP,
-    WORKERS,
+    COPY, DEPTH, DOCUMENTS, LEAF, MAKE, MIN_DF, NUMBER, QUERY, REORDER, REPORT, ROUNDS, START,
+    STEP, WORKERS,
 };
 
 /// A command with its operands and the numbers of its options.
@@ -31,6 +31,11 @@ pub enum Command<'a> {
         input: &'a str,
         output: &'a str,
         options: Reordering,
+    },
+    /// Answers each query of the file `queries` over the index of the file `input`.
+    Query {
+        input: &'a str,
+        queries: &'a str,
     },
     /// Draws an index of so many documents from a number, writes it to the file `output`, reorders it
     /// in memory, and prints how many rounds were kept and the gap costs before and after.
@@ -106,6 +111,18 @@ fn reorder_of(words: &[String]) -> Option<Command<'_>>
     })
 }
 
+// The words behind `query`.
+fn query_of(words: &[String]) -> Option<Command<'_>>
+    ensures { Answers (query_row.name ∷ texts_of words.now) (option_map command_seen result) }
+{
+    if !follow(words, &QUERY) {
+        return None;
+    }
+    let input = operand(words, 0)?;
+    let queries = operand(words, 1)?;
+    Some(Command::Query { input, queries })
+}
+
 // The words behind `make`.
 fn make_of(words: &[String]) -> Option<Command<'_>>
     ensures { Answers (make_row.name ∷ texts_of words.now) (option_map command_seen result) }
@@ -137,6 +154,7 @@ pub fn command_of(words: &[String]) -> Option<Command<'_>>
         "copy" => copy_of(rest),
         "report" => report_of(rest),
         "reorder" => reorder_of(rest),
+        "query" => query_of(rest),
         "make" => make_of(rest),
         _ => None,
     }

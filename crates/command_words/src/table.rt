@@ -124,6 +124,13 @@ pub(crate) const REORDER: Row = Row {
     options: REORDERING,
 };
 
+/// `query IN QUERIES`
+pub(crate) const QUERY: Row = Row {
+    name: "query",
+    operands: 2,
+    options: &[],
+};
+
 /// `make N OUT`
 pub(crate) const MAKE: Row = Row {
     name: "make",

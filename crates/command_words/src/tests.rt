@@ -19,11 +19,15 @@ fn words_of(alloc: Global, words: &[&str]) -> Result<Vec<String>, Fail> {
 fn words_that_are_a_command(rt: HostRuntime) -> Result<(), Fail> {
     let copy = |input, output| Command::Copy { input, output };
     let report = |input, workers| Command::Report { input, workers };
-    let rows: [(&[&str], Command<'_>); 10] = [
+    let query = |input, queries| Command::Query { input, queries };
+    let rows: [(&[&str], Command<'_>); 13] = [
         (&["copy", "a", "b"], copy("a", "b")),
         (&["copy", "a", "a"], copy("a", "a")),
         (&["copy", "", "-b"], copy("", "-b")),
         (&["copy", "copy", "report"], copy("copy", "report")),
+        (&["query", "a", "b"], query("a", "b")),
+        (&["query", "a", "a"], query("a", "a")),
+        (&["query", "", "-"], query("", "-")),
         (&["report", "a"], report("a", 1)),
         (&["report", "a", "--workers", "01"], report("a", 1)),
         (&["report", "a", "--workers", "64"], report("a", 64)),
@@ -40,7 +44,7 @@ fn words_that_are_a_command(rt: HostRuntime) -> Result<(), Fail> {
 
 #[test]
 fn words_that_are_no_command(rt: HostRuntime) -> Result<(), Fail> {
-    let rows: [&[&str]; 18] = [
+    let rows: [&[&str]; 24] = [
         &[],
         &["Copy", "a", "b"],
         &["copy"],
@@ -50,6 +54,12 @@ fn words_that_are_no_command(rt: HostRuntime) -> Result<(), Fail> {
         &["copy", "a", "--"],
         &["copy", "a", "b", "--depth", "1"],
         &["copy", "a", "b", "--workers", "1"],
+        &["Query", "a", "b"],
+        &["query"],
+        &["query", "a"],
+        &["query", "a", "b", "c"],
+        &["query", "a", "b", "--workers", "1"],
+        &["query", "a", "b", "--"],
         &["a", "copy", "b"],
         &["--workers", "1", "report", "a"],
         &["report"],

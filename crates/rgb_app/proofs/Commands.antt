@@ -4,7 +4,7 @@ use Rattle.std.specs.Result.{IsErrAnd, MatchResult}
 use Rattle.std.specs.FinMap.{get}
 use Rattle.rgb_base.specs.Parts.{IndexParts}
 use Rattle.rgb_host.specs.Files.{Files, IsMissing}
-use Rattle.rgb_host.specs.Seen.{Seen}
+use Rattle.rgb_host.specs.Seen.{Seen, PrintedThenFailed, with_print}
 use Rattle.ciff_format.specs.Canonical.{bytes_of}
 use Rattle.ciff_format.specs.Accepted.{Accepted}
 use Rattle.ciff_format.specs.Refused.{Refused}
@@ -12,17 +12,24 @@ use Rattle.ciff_format.specs.declared.cause.Cause.{Cause}
 use Rattle.ciff_reader.specs.Reading.{OfFile, Explains}
 use Rattle.ciff_reader.specs.declared.error.ReadError.{ReadError}
 use Rattle.ciff_reader.specs.declared.error.ReadError.TheVariants as errors
+use Rattle.query_file.specs.Queries.{Numbered, AreQueries, IsTooLong, IsFirstFault}
+use Rattle.query_file.specs.Reading.{Explains as QueriesExplain}
+use Rattle.query_file.specs.declared.error.LineCause.{LineCause}
+use Rattle.query_file.specs.declared.error.QueriesError.{QueriesError}
+use Rattle.query_file.specs.declared.error.QueriesError.TheVariants as query_errors
+use Rattle.rgb_app.specs.Answering.{AreAnswers}
+use Rattle.rgb_app.specs.declared.answers.Answer.{Answer}
 use Rattle.command_words.specs.Line.{Word, ComesTo as OptionComesTo}
-use Rattle.command_words.specs.Command.{Command, copy, report, reorder, make, workers_option, IsCommand}
+use Rattle.command_words.specs.Command.{Command, copy, report, reorder, query, make, workers_option, IsCommand}
 use Rattle.command_words.specs.declared.reordering.Reordering.{Reordering}
 use Rattle.bisection.specs.declared.trace.KeptRound.{KeptRound}
-use Rattle.rgb_app.specs.Text.{index_line, report_text, reorder_text}
+use Rattle.rgb_app.specs.Text.{index_line, report_text, reorder_text, query_text}
 use Rattle.rgb_app.specs.Reordering.{IsReordered}
 use Rattle.generated_index.specs.Generated.{generated}
 use Rattle.rgb_app.specs.Summary.{IsSummary}
-use Rattle.rgb_app.specs.Outcome.{Input, index_file, inputs_of, done, malformed, missing, writing, printing, index_made, FirstStops, ComesTo}
-use Rattle.rgb_app.specs.Status.{status_of_read}
-use Rattle.rgb_app.specs.Ends.{MayComeTo, delivered, IsCutOff, Says}
+use Rattle.rgb_app.specs.Outcome.{Input, index_file, inputs_of, done, malformed, missing, bad_query, too_long, writing, printing, index_made, FirstStops, ComesTo}
+use Rattle.rgb_app.specs.Status.{status_of_read, status_of_queries}
+use Rattle.rgb_app.specs.Ends.{MayComeTo, delivered, IsCutOff, not_printed, Says}
 use Rattle.rgb_app.specs.declared.status.Status.TheVariants.{Done, WriteFault}
 
 -- an error that a question mark hands on
@@ -153,3 +160,58 @@ pub generated_cut : (documents : ℕ) (output : Word) (number : ℕ) (options : 
     → lent ≡ text → IsCutOff (writing output (bytes_of index) lent) before after → Says WriteFault (make documents output number options) before after
 generated_cut documents output number options index text lent before after is sums same cut =
     (writing output (bytes_of index) lent, make_work documents output number options index lent before is (subst (IsSummary options index) (sym same) sums), cut)
+
+-- ---- query
+
+queries_missing : (told : Option Files) (input queries : Word) (index : IndexParts) → IfSome told (λ files. IsSomeAnd (get files input) (λ file. Accepted file index)) → IsMissing told queries
+    → IsSomeAnd told (λ files. ComesTo (query input queries) files missing)
+queries_missing None input queries index holds lacks = lacks
+queries_missing (Some files) input queries index holds lacks = inr ((index, holds), inl lacks)
+
+queries_too_long : (told : Option Files) (input queries : Word) (index : IndexParts) → IfSome told (λ files. IsSomeAnd (get files input) (λ file. Accepted file index)) → IfSome told (λ files. IsSomeAnd (get files queries) IsTooLong)
+    → IfSome told (λ files. ComesTo (query input queries) files too_long)
+queries_too_long None input queries index holds long = tt
+queries_too_long (Some files) input queries index holds long = inr ((index, holds), inl long)
+
+queries_faulty : (told : Option Files) (input queries : Word) (index : IndexParts) (line at : ℕ) (cause : LineCause) → IfSome told (λ files. IsSomeAnd (get files input) (λ file. Accepted file index))
+    → IfSome told (λ files. IsSomeAnd (get files queries) (λ file. IsFirstFault file line at cause)) → IfSome told (λ files. ComesTo (query input queries) files (bad_query line at cause))
+queries_faulty None input queries index line at cause holds bad = tt
+queries_faulty (Some files) input queries index line at cause holds bad = inr ((index, holds), inl bad)
+
+-- the index is read and the queries aren't
+told_queries : (error : QueriesError) (input queries : Word) (index : IndexParts) (before after : Seen) → OfFile before input (λ file. Accepted file index) → QueriesExplain error queries before after
+    → Says (status_of_queries error) (query input queries) before after
+told_queries query_errors.Fault input queries index before after holds (inl failed) = inl failed
+told_queries query_errors.Fault input queries index before after holds (inr lacks) = inr (queries_missing before.files input queries index holds lacks.0, lacks.1)
+told_queries query_errors.OutOfMemory input queries index before after holds same = same
+told_queries query_errors.TooLong input queries index before after holds (long, same) = (queries_too_long before.files input queries index holds long, same)
+told_queries (query_errors.BadLine fault) input queries index before after holds (bad, same) = (queries_faulty before.files input queries index fault.line fault.at fault.cause holds bad, same)
+
+pub queries_explained : (error : QueriesError) (input queries : Word) (index : IndexParts) (before read after : Seen) → OfFile before input (λ file. Accepted file index) → read ≡ before → QueriesExplain error queries read after
+    → Says (status_of_queries error) (query input queries) before after
+queries_explained error input queries index before read after holds same explains =
+    told_queries error input queries index before after holds (subst (λ (host : Seen). QueriesExplain error queries host after) same explains)
+
+query_comes : (told : Option Files) (input queries : Word) (index : IndexParts) (asked : List Numbered) (answers : List Answer) → IfSome told (λ files. IsSomeAnd (get files input) (λ file. Accepted file index))
+    → IfSome told (λ files. IsSomeAnd (get files queries) (λ file. AreQueries file asked)) → AreAnswers index asked answers
+    → IfSome told (λ files. ComesTo (query input queries) files (done (printing (query_text index answers))))
+query_comes None input queries index asked answers holds are is = tt
+query_comes (Some files) input queries index asked answers holds are is = (index, asked, answers, holds, are, is, refl)
+
+query_work : (input queries : Word) (index : IndexParts) (asked : List Numbered) (answers : List Answer) (before read : Seen) → OfFile before input (λ file. Accepted file index) → read ≡ before
+    → OfFile read queries (λ file. AreQueries file asked) → AreAnswers index asked answers → MayComeTo (query input queries) before (done (printing (query_text index answers)))
+query_work input queries index asked answers before read holds same are is =
+    query_comes before.files input queries index asked answers holds (subst (λ (host : Seen). OfFile host queries (λ file. AreQueries file asked)) same are) is
+
+pub queried : (input queries : Word) (index : IndexParts) (asked : List Numbered) (answers : List Answer) (before read again after : Seen) → OfFile before input (λ file. Accepted file index) → read ≡ before
+    → OfFile read queries (λ file. AreQueries file asked) → again ≡ read → AreAnswers index asked answers → after ≡ with_print (query_text index answers) again → Says Done (query input queries) before after
+queried input queries index asked answers before read again after holds same are still is stands =
+    (printing (query_text index answers), query_work input queries index asked answers before read holds same are is, stands ∙ ap (with_print (query_text index answers)) (still ∙ same))
+
+pub query_cut : (input queries : Word) (index : IndexParts) (asked : List Numbered) (answers : List Answer) (before read again after : Seen) → OfFile before input (λ file. Accepted file index) → read ≡ before
+    → OfFile read queries (λ file. AreQueries file asked) → again ≡ read → AreAnswers index asked answers → PrintedThenFailed (query_text index answers) again after → Says WriteFault (query input queries) before after
+query_cut input queries index asked answers before read again after holds same are still is cut = (
+  printing (query_text index answers),
+  query_work input queries index asked answers before read holds same are is,
+  not_printed (subst (λ (host : Seen). PrintedThenFailed (query_text index answers) host after) (still ∙ same) cut),
+)

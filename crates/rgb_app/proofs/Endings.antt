@@ -4,12 +4,12 @@ use Rattle.rgb_host.specs.Files.{Files, Rose}
 use Rattle.rgb_host.specs.Seen.{Seen}
 use Rattle.command_words.specs.Line.{Word}
 use Rattle.command_words.specs.Command.{Command, IsCommand, Answers}
-use Rattle.rgb_app.specs.Outcome.{Outcome, Written, Work, done, malformed, missing, ComesTo}
+use Rattle.rgb_app.specs.Outcome.{Outcome, Written, Work, done, malformed, missing, bad_query, too_long, ComesTo}
 use Rattle.rgb_app.specs.Status.{code_of, warning_of, status_of}
 use Rattle.rgb_app.specs.Ends.{DoesComeTo, with_written, Says, SpellsNone, SpellsOne, Runs, Warned, Ends, IsDisturbed, IsExact, IsCutOff, not_created, not_written, not_printed}
 use Rattle.rgb_app.specs.Laws.{OneOutcome}
 use Rattle.rgb_app.specs.declared.status.Status.{Status}
-use Rattle.rgb_app.specs.declared.status.Status.TheVariants.{Done, Usage, Malformed, ReadFault, WriteFault, Memory}
+use Rattle.rgb_app.specs.declared.status.Status.TheVariants.{Done, Usage, Malformed, ReadFault, WriteFault, Memory, BadQuery, TooLong}
 
 -- ---- usage
 
@@ -20,6 +20,8 @@ usage_code (Malformed place cause) command before after says is = absurd (cc)
 usage_code ReadFault command before after says is = absurd (cc)
 usage_code WriteFault command before after says is = absurd (cc)
 usage_code Memory command before after says is = absurd (cc)
+usage_code (BadQuery line at cause) command before after says is = absurd (cc)
+usage_code TooLong command before after says is = absurd (cc)
 
 usage_means : (status : Status) (words : List Word) (before after : Seen) → Runs status words before after → code_of status ≡ 2 → SpellsNone words
 usage_means status words before after (inl p) is = p.0
@@ -53,11 +55,15 @@ disturbed_after (done work) before between after reads writes (inl d) = inl (sub
 disturbed_after (done work) before between after reads writes (inr d) = inr (subst (λ n. Rose before.write_faults n) (sym writes) d)
 disturbed_after (malformed place cause) before between after reads writes d = subst (λ n. Rose before.read_faults n) (sym reads) d
 disturbed_after missing before between after reads writes d = subst (λ n. Rose before.read_faults n) (sym reads) d
+disturbed_after (bad_query line at cause) before between after reads writes d = subst (λ n. Rose before.read_faults n) (sym reads) d
+disturbed_after too_long before between after reads writes d = subst (λ n. Rose before.read_faults n) (sym reads) d
 
 read_disturbs : (outcome : Outcome) (before after : Seen) → Rose before.read_faults after.read_faults → IsDisturbed outcome before after
 read_disturbs (done work) before after rose = inl rose
 read_disturbs (malformed place cause) before after rose = rose
 read_disturbs missing before after rose = rose
+read_disturbs (bad_query line at cause) before after rose = rose
+read_disturbs too_long before after rose = rose
 
 written_counts : (file : Option Written) (host : Seen) → (with_written file host).write_faults ≡ host.write_faults
 written_counts None host = refl
@@ -90,6 +96,8 @@ status_tells law WriteFault command outcome before after says told calm =
     let same : done says.0 ≡ outcome = told_one law command before.files (done says.0) outcome says.1 told in
     absurd (subst (λ o. ¬ IsDisturbed o before after) (sym same) calm (inr (cut_off_rose says.0 before after says.2)))
 status_tells law Memory command outcome before after says told calm = inr refl
+status_tells law (BadQuery line at cause) command outcome before after says told calm = inl (ap status_of (told_one law command before.files (bad_query line at cause) outcome says.0 told))
+status_tells law TooLong command outcome before after says told calm = inl (ap status_of (told_one law command before.files too_long outcome says.0 told))
 
 -- words spell one command at most, as their reading says
 pub answers_one : (words : List Word) (found : Option Command) → Answers words found → SpellsOne words

@@ -5,3 +5,6 @@ pub mod Outcomes
 pub mod Endings
 pub mod Texts
 pub mod Commands
+pub mod Sending
+pub mod Meanings
+pub mod Answerings

@@ -10,16 +10,20 @@ use Rattle.ciff_format.specs.declared.cause.Cause.{Cause}
 use Rattle.ciff_format.specs.Laws.{FileIsOneIndex, AcceptedIsIndex, RefusalIsOne, NeverBoth, EveryFileIsRead}
 use Rattle.rgb_host.specs.Files.{Files}
 use Rattle.command_words.specs.Line.{Word}
-use Rattle.command_words.specs.Command.{Command, copy, report, reorder, make}
+use Rattle.command_words.specs.Command.{Command, copy, report, reorder, query, make}
 use Rattle.command_words.specs.declared.reordering.Reordering.{Reordering}
 use Rattle.bisection.specs.declared.trace.KeptRound.{KeptRound}
-use Rattle.rgb_app.specs.Text.{index_line, report_text, reorder_text, make_text}
+use Rattle.rgb_app.specs.Text.{index_line, report_text, reorder_text, query_text, make_text}
 use Rattle.rgb_app.specs.Reordering.{IsReordered}
 use Rattle.rgb_app.specs.Summary.{IsSummary}
-use Rattle.generated_index.specs.Generated.{generated}
 use Rattle.generated_index.specs.Laws.{GeneratedIsIndex}
 use Rattle.rgb_app.proofs.Reorderings.{AreOne, AreThere, one_reordering, some_reordering}
-use Rattle.rgb_app.specs.Outcome.{Input, index_file, inputs_of, Work, Outcome, done, malformed, missing, IsGood, Stops, FirstStops, writing, printing, index_made, IsWork, ComesTo}
+use Rattle.rgb_app.proofs.Answerings.{AnswerLaws, answers_are_one, some_answers}
+use Rattle.query_file.specs.Queries.{Numbered, AreQueries, IsTooLong, IsFirstFault}
+use Rattle.query_file.specs.Laws.{QueriesAreOne, FirstFaultIsOne, AcceptedHasNoFault, Verdict, accepted, too_long as long_file, at_fault, EveryFileHasVerdict}
+use Rattle.query_file.specs.declared.error.LineCause.{LineCause}
+use Rattle.rgb_app.specs.Answering.{AreAnswers}
+use Rattle.rgb_app.specs.Outcome.{Input, index_file, query_file, inputs_of, Work, Outcome, done, malformed, missing, bad_query, too_long, IsGood, Stops, FirstStops, writing, printing, index_made, IsWork, ComesTo}
 use Rattle.rgb_app.specs.Laws.{OneOutcome, SomeOutcome}
 
 -- ---- the file of an input
@@ -51,70 +55,164 @@ bad_not_gone : (found : Option (List ℕ)) (place : ℕ) (cause : Cause) → IsB
 bad_not_gone None place cause bad gone = bad
 bad_not_gone (Some file) place cause bad gone = cc
 
+-- ---- the file of queries
+
+-- what is found is accepted as these queries, has this fault first, or is too long
+abbrev AreFound : Option (List ℕ) → List Numbered → Type 0
+AreFound found queries = IsSomeAnd found (λ file. AreQueries file queries)
+
+abbrev IsFaulty : Option (List ℕ) → ℕ → ℕ → LineCause → Type 0
+IsFaulty found line at cause = IsSomeAnd found (λ file. IsFirstFault file line at cause)
+
+abbrev IsLong : Option (List ℕ) → Type 0
+IsLong found = IsSomeAnd found IsTooLong
+
+-- what is told of files of queries and of answers
+pub record QueryLaws : Type 0 where
+  pub queries : QueriesAreOne
+  pub fault : FirstFaultIsOne
+  pub never_both : AcceptedHasNoFault
+  pub answers : AnswerLaws
+
+same_queries : QueryLaws → (found : Option (List ℕ)) (one other : List Numbered) → AreFound found one → AreFound found other → one ≡ other
+same_queries laws None one other p q = absurd p
+same_queries laws (Some file) one other p q = laws.queries file one other p q
+
+same_fault : QueryLaws → (found : Option (List ℕ)) (line number at place : ℕ) (c d : LineCause) → IsFaulty found line at c → IsFaulty found number place d → bad_query line at c ≡ bad_query number place d
+same_fault laws None line number at place c d p q = absurd p
+same_fault laws (Some file) line number at place c d p q =
+    let same = laws.fault file line number at place c d p q in
+    ap (λ n. bad_query n at c) same.0 ∙ ap (λ n. bad_query number n c) same.1 ∙ ap (bad_query number place) same.2
+
+asked_not_faulty : QueryLaws → (found : Option (List ℕ)) (queries : List Numbered) (line at : ℕ) (cause : LineCause) → AreFound found queries → IsFaulty found line at cause → ⊥
+asked_not_faulty laws None queries line at cause p q = p
+asked_not_faulty laws (Some file) queries line at cause p q = laws.never_both file queries line at cause p q
+
+asked_not_long : (found : Option (List ℕ)) (queries : List Numbered) → AreFound found queries → IsLong found → ⊥
+asked_not_long None queries p q = p
+asked_not_long (Some file) queries p q = omega (arith, p.few, q)
+
+faulty_not_long : (found : Option (List ℕ)) (line at : ℕ) (cause : LineCause) → IsFaulty found line at cause → IsLong found → ⊥
+faulty_not_long None line at cause p q = p
+faulty_not_long (Some file) line at cause p q = omega (arith, p.few, q)
+
+there_not_gone : (P : List ℕ → Type 0) (found : Option (List ℕ)) → IsSomeAnd found P → found ≡ None → ⊥
+there_not_gone P None there gone = there
+there_not_gone P (Some file) there gone = cc
+
 -- ---- inputs
 
-stop_is_one : RefusalIsOne → (files : Files) (input : Input) (one other : Outcome) → Stops files input one → Stops files input other → one ≡ other
-stop_is_one law files (index_file name) (done w) other p q = absurd p
-stop_is_one law files (index_file name) (malformed a c) (done w) p q = absurd q
-stop_is_one law files (index_file name) (malformed a c) (malformed b d) p q = one_refusal law (get files name) a b c d p q
-stop_is_one law files (index_file name) (malformed a c) missing p q = absurd (bad_not_gone (get files name) a c p q)
-stop_is_one law files (index_file name) missing (done w) p q = absurd q
-stop_is_one law files (index_file name) missing (malformed b d) p q = absurd (bad_not_gone (get files name) b d q p)
-stop_is_one law files (index_file name) missing missing p q = refl
+stop_is_one : RefusalIsOne → QueryLaws → (files : Files) (input : Input) (one other : Outcome) → Stops files input one → Stops files input other → one ≡ other
+stop_is_one law laws files (index_file name) (malformed a c) (malformed b d) p q = one_refusal law (get files name) a b c d p q
+stop_is_one law laws files (index_file name) (malformed a c) missing p q = absurd (bad_not_gone (get files name) a c p q)
+stop_is_one law laws files (index_file name) missing (malformed b d) p q = absurd (bad_not_gone (get files name) b d q p)
+stop_is_one law laws files (index_file name) missing missing p q = refl
+stop_is_one law laws files (index_file name) (done w) other p q = absurd p
+stop_is_one law laws files (index_file name) (bad_query line at cause) other p q = absurd p
+stop_is_one law laws files (index_file name) too_long other p q = absurd p
+stop_is_one law laws files (index_file name) (malformed a c) (done w) p q = absurd q
+stop_is_one law laws files (index_file name) (malformed a c) (bad_query line at cause) p q = absurd q
+stop_is_one law laws files (index_file name) (malformed a c) too_long p q = absurd q
+stop_is_one law laws files (index_file name) missing (done w) p q = absurd q
+stop_is_one law laws files (index_file name) missing (bad_query line at cause) p q = absurd q
+stop_is_one law laws files (index_file name) missing too_long p q = absurd q
+stop_is_one law laws files (query_file name) (done w) other p q = absurd p
+stop_is_one law laws files (query_file name) (malformed a c) other p q = absurd p
+stop_is_one law laws files (query_file name) missing (done w) p q = absurd q
+stop_is_one law laws files (query_file name) missing (malformed b d) p q = absurd q
+stop_is_one law laws files (query_file name) missing missing p q = refl
+stop_is_one law laws files (query_file name) missing (bad_query line at cause) p q = absurd (there_not_gone (λ file. IsFirstFault file line at cause) (get files name) q p)
+stop_is_one law laws files (query_file name) missing too_long p q = absurd (there_not_gone IsTooLong (get files name) q p)
+stop_is_one law laws files (query_file name) (bad_query line at cause) (done w) p q = absurd q
+stop_is_one law laws files (query_file name) (bad_query line at cause) (malformed b d) p q = absurd q
+stop_is_one law laws files (query_file name) (bad_query line at cause) missing p q = absurd (there_not_gone (λ file. IsFirstFault file line at cause) (get files name) p q)
+stop_is_one law laws files (query_file name) (bad_query line at cause) (bad_query number place other) p q = same_fault laws (get files name) line number at place cause other p q
+stop_is_one law laws files (query_file name) (bad_query line at cause) too_long p q = absurd (faulty_not_long (get files name) line at cause p q)
+stop_is_one law laws files (query_file name) too_long (done w) p q = absurd q
+stop_is_one law laws files (query_file name) too_long (malformed b d) p q = absurd q
+stop_is_one law laws files (query_file name) too_long missing p q = absurd (there_not_gone IsTooLong (get files name) p q)
+stop_is_one law laws files (query_file name) too_long (bad_query line at cause) p q = absurd (faulty_not_long (get files name) line at cause q p)
+stop_is_one law laws files (query_file name) too_long too_long p q = refl
 
-good_does_not_stop : NeverBoth → (files : Files) (input : Input) (outcome : Outcome) → IsGood files input → Stops files input outcome → ⊥
-good_does_not_stop law files (index_file name) (done w) g p = p
-good_does_not_stop law files (index_file name) (malformed a c) g p = found_not_bad law (get files name) g.0 a c g.1 p
-good_does_not_stop law files (index_file name) missing g p = found_not_gone (get files name) g.0 g.1 p
+good_does_not_stop : NeverBoth → QueryLaws → (files : Files) (input : Input) (outcome : Outcome) → IsGood files input → Stops files input outcome → ⊥
+good_does_not_stop law laws files (index_file name) (done w) g p = p
+good_does_not_stop law laws files (index_file name) (malformed a c) g p = found_not_bad law (get files name) g.0 a c g.1 p
+good_does_not_stop law laws files (index_file name) missing g p = found_not_gone (get files name) g.0 g.1 p
+good_does_not_stop law laws files (index_file name) (bad_query line at cause) g p = p
+good_does_not_stop law laws files (index_file name) too_long g p = p
+good_does_not_stop law laws files (query_file name) (done w) g p = p
+good_does_not_stop law laws files (query_file name) (malformed a c) g p = p
+good_does_not_stop law laws files (query_file name) missing g p = there_not_gone (λ file. AreQueries file g.0) (get files name) g.1 p
+good_does_not_stop law laws files (query_file name) (bad_query line at cause) g p = asked_not_faulty laws (get files name) g.0 line at cause g.1 p
+good_does_not_stop law laws files (query_file name) too_long g p = asked_not_long (get files name) g.0 g.1 p
 
-first_is_one : RefusalIsOne → NeverBoth → (files : Files) (inputs : List Input) (one other : Outcome) → FirstStops files inputs one → FirstStops files inputs other → one ≡ other
-first_is_one law never files [] one other p q = absurd p
-first_is_one law never files (input ∷ inputs) one other (inl p) (inl q) = stop_is_one law files input one other p q
-first_is_one law never files (input ∷ inputs) one other (inl p) (inr q) = absurd (good_does_not_stop never files input one q.0 p)
-first_is_one law never files (input ∷ inputs) one other (inr p) (inl q) = absurd (good_does_not_stop never files input other p.0 q)
-first_is_one law never files (input ∷ inputs) one other (inr p) (inr q) = first_is_one law never files inputs one other p.1 q.1
+first_is_one : RefusalIsOne → NeverBoth → QueryLaws → (files : Files) (inputs : List Input) (one other : Outcome) → FirstStops files inputs one → FirstStops files inputs other → one ≡ other
+first_is_one law never laws files [] one other p q = absurd p
+first_is_one law never laws files (input ∷ inputs) one other (inl p) (inl q) = stop_is_one law laws files input one other p q
+first_is_one law never laws files (input ∷ inputs) one other (inl p) (inr q) = absurd (good_does_not_stop never laws files input one q.0 p)
+first_is_one law never laws files (input ∷ inputs) one other (inr p) (inl q) = absurd (good_does_not_stop never laws files input other p.0 q)
+first_is_one law never laws files (input ∷ inputs) one other (inr p) (inr q) = first_is_one law never laws files inputs one other p.1 q.1
 
 -- ---- work
 
-work_is_one : FileIsOneIndex → AreOne → (files : Files) (command : Command) (one other : Work) → IsWork files command one → IsWork files command other → one ≡ other
-work_is_one law laws files (copy input output) one other p q =
+work_is_one : FileIsOneIndex → AreOne → QueryLaws → (files : Files) (command : Command) (one other : Work) → IsWork files command one → IsWork files command other → one ≡ other
+work_is_one law laws told files (copy input output) one other p q =
     let same : p.0 ≡ q.0 = one_index law (get files input) p.0 q.0 p.1 q.1 in
     p.2 ∙ ap (λ index. writing output (bytes_of index) (index_line index)) same ∙ sym q.2
-work_is_one law laws files (report input workers) one other p q =
+work_is_one law laws told files (report input workers) one other p q =
     let same : p.0 ≡ q.0 = one_index law (get files input) p.0 q.0 p.1 q.1 in
     p.2 ∙ ap (λ index. printing (report_text index)) same ∙ sym q.2
-work_is_one law laws files (reorder input output options) one other p q =
+work_is_one law laws told files (reorder input output options) one other p q =
     let same : p.0 ≡ q.0 = one_index law (get files input) p.0 q.0 p.3 q.3 in
     let reordered : IsReordered options q.0 p.1 p.2 = subst (λ (index : IndexParts). IsReordered options index p.1 p.2) same p.4 in
     let both = one_reordering laws options q.0 p.1 q.1 p.2 q.2 reordered q.4 in
     let work : IndexParts → IndexParts → List KeptRound → Work = λ index new trace. writing output (bytes_of new) (reorder_text index new trace) in
     p.5 ∙ ap (λ index. work index p.1 p.2) same ∙ ap (λ new. work q.0 new p.2) both.new ∙ ap (work q.0 q.1) both.trace ∙ sym q.5
-work_is_one law laws files (make documents output number options) one other p q =
+work_is_one law laws told files (query input queries) one other p q =
+    let same : p.0 ≡ q.0 = one_index law (get files input) p.0 q.0 p.3 q.3 in
+    let asked : p.1 ≡ q.1 = same_queries told (get files queries) p.1 q.1 p.4 q.4 in
+    let answered : AreAnswers q.0 q.1 p.2 = subst (λ (qs : List Numbered). AreAnswers q.0 qs p.2) asked (subst (λ (index : IndexParts). AreAnswers index p.1 p.2) same p.5) in
+    let answers : p.2 ≡ q.2 = answers_are_one told.answers q.0 q.1 p.2 q.2 answered q.5 in
+    p.6 ∙ ap (λ index. printing (query_text index p.2)) same ∙ ap (λ all. printing (query_text q.0 all)) answers ∙ sym q.6
+work_is_one law laws told files (make documents output number options) one other p q =
     let index = index_made documents number in
     let both = one_reordering laws options index p.1.new q.1.new p.1.trace q.1.trace p.1.is_reordered q.1.is_reordered in
     let same : p.0 ≡ q.0 = p.1.is_text ∙ ap (λ new. make_text index new p.1.trace) both.new ∙ ap (make_text index q.1.new) both.trace ∙ sym q.1.is_text in
     p.2 ∙ ap (writing output (bytes_of index)) same ∙ sym q.2
 
 -- where there is work no input stops it
-work_goes_on : NeverBoth → (files : Files) (command : Command) (work : Work) (outcome : Outcome) → IsWork files command work → FirstStops files (inputs_of command) outcome → ⊥
-work_goes_on law files (copy input output) work outcome p (inl s) = good_does_not_stop law files (index_file input) outcome (p.0, p.1) s
-work_goes_on law files (copy input output) work outcome p (inr s) = s.1
-work_goes_on law files (report input workers) work outcome p (inl s) = good_does_not_stop law files (index_file input) outcome (p.0, p.1) s
-work_goes_on law files (report input workers) work outcome p (inr s) = s.1
-work_goes_on law files (reorder input output options) work outcome p (inl s) = good_does_not_stop law files (index_file input) outcome (p.0, p.3) s
-work_goes_on law files (reorder input output options) work outcome p (inr s) = s.1
-work_goes_on law files (make documents output number options) work outcome p s = s
+work_goes_on : NeverBoth → QueryLaws → (files : Files) (command : Command) (work : Work) (outcome : Outcome) → IsWork files command work → FirstStops files (inputs_of command) outcome → ⊥
+work_goes_on law laws files (copy input output) work outcome p (inl s) = good_does_not_stop law laws files (index_file input) outcome (p.0, p.1) s
+work_goes_on law laws files (copy input output) work outcome p (inr s) = s.1
+work_goes_on law laws files (report input workers) work outcome p (inl s) = good_does_not_stop law laws files (index_file input) outcome (p.0, p.1) s
+work_goes_on law laws files (report input workers) work outcome p (inr s) = s.1
+work_goes_on law laws files (reorder input output options) work outcome p (inl s) = good_does_not_stop law laws files (index_file input) outcome (p.0, p.3) s
+work_goes_on law laws files (reorder input output options) work outcome p (inr s) = s.1
+work_goes_on law laws files (query input queries) work outcome p (inl s) = good_does_not_stop law laws files (index_file input) outcome (p.0, p.3) s
+work_goes_on law laws files (query input queries) work outcome p (inr (good, inl s)) = good_does_not_stop law laws files (query_file queries) outcome (p.1, p.4) s
+work_goes_on law laws files (query input queries) work outcome p (inr (good, inr s)) = s.1
+work_goes_on law laws files (make documents output number options) work outcome p s = s
 
-pub one_outcome : FileIsOneIndex → RefusalIsOne → NeverBoth → AreOne → OneOutcome
-one_outcome law refusal never laws command files (done a) (done b) p q = ap done (work_is_one law laws files command a b p q)
-one_outcome law refusal never laws command files (done a) (malformed b d) p q = absurd (work_goes_on never files command a (malformed b d) p q)
-one_outcome law refusal never laws command files (done a) missing p q = absurd (work_goes_on never files command a missing p q)
-one_outcome law refusal never laws command files (malformed a c) (done b) p q = absurd (work_goes_on never files command b (malformed a c) q p)
-one_outcome law refusal never laws command files (malformed a c) (malformed b d) p q = first_is_one refusal never files (inputs_of command) (malformed a c) (malformed b d) p q
-one_outcome law refusal never laws command files (malformed a c) missing p q = first_is_one refusal never files (inputs_of command) (malformed a c) missing p q
-one_outcome law refusal never laws command files missing (done b) p q = absurd (work_goes_on never files command b missing q p)
-one_outcome law refusal never laws command files missing (malformed b d) p q = first_is_one refusal never files (inputs_of command) missing (malformed b d) p q
-one_outcome law refusal never laws command files missing missing p q = refl
+-- the command did its work, or an input stopped it
+data Came (files : Files) (command : Command) (outcome : Outcome) : Type 0 where
+  worked : (work : Work) → outcome ≡ done work → IsWork files command work → Came files command outcome
+  stopped : FirstStops files (inputs_of command) outcome → Came files command outcome
+
+came : (files : Files) (command : Command) (outcome : Outcome) → ComesTo command files outcome → Came files command outcome
+came files command (done work) p = worked work refl p
+came files command (malformed place cause) p = stopped p
+came files command missing p = stopped p
+came files command (bad_query line at cause) p = stopped p
+came files command too_long p = stopped p
+
+pub one_outcome : FileIsOneIndex → RefusalIsOne → NeverBoth → AreOne → QueryLaws → OneOutcome
+one_outcome law refusal never laws told command files one other p q = agree (came files command one p) (came files command other q)
+  where
+    agree : Came files command one → Came files command other → one ≡ other
+    agree (worked a is x) (worked b same y) = is ∙ ap done (work_is_one law laws told files command a b x y) ∙ sym same
+    agree (worked a is x) (stopped y) = absurd (work_goes_on never told files command a other x y)
+    agree (stopped x) (worked b same y) = absurd (work_goes_on never told files command b one y x)
+    agree (stopped x) (stopped y) = first_is_one refusal never told files (inputs_of command) one other x y
 
 -- ---- there is one
 
@@ -162,8 +260,35 @@ some_make sound laws files documents output number options =
     let summary : IsSummary options index text = record { new = made.new; trace = made.trace; is_reordered = made.is_reordered; is_text = refl } in
     (done (writing output (bytes_of index) text), (text, summary, refl))
 
-pub some_outcome : EveryFileIsRead → AcceptedIsIndex → GeneratedIsIndex → AreThere → SomeOutcome
-some_outcome law sound generates laws (copy input output) files bytes = some_copy files input output (reading law (get files input) (bytes input))
-some_outcome law sound generates laws (report input workers) files bytes = some_report files input workers (reading law (get files input) (bytes input))
-some_outcome law sound generates laws (reorder input output options) files bytes = some_reorder sound laws files input output options (reading law (get files input) (bytes input))
-some_outcome law sound generates laws (make documents output number options) files bytes = some_make generates laws files documents output number options
+-- queries are accepted, are too long, have a first fault, or aren't there
+data Asking (found : Option (List ℕ)) : Type 0 where
+  asked : (queries : List Numbered) → AreFound found queries → Asking found
+  long : IsLong found → Asking found
+  faulty : (line at : ℕ) (cause : LineCause) → IsFaulty found line at cause → Asking found
+  no_file : found ≡ None → Asking found
+
+asking : EveryFileHasVerdict → (found : Option (List ℕ)) → Asking found
+asking law None = no_file refl
+asking law (Some file) = verdict (law file)
+  where
+    verdict : Verdict file → Asking (Some file)
+    verdict (accepted queries are) = asked queries are
+    verdict (long_file is) = long is
+    verdict (at_fault line at cause is) = faulty line at cause is
+
+some_query : AcceptedIsIndex → AnswerLaws → (files : Files) (input queries : Word) → Reading (get files input) → Asking (get files queries) → (outcome : Outcome) × ComesTo (query input queries) files outcome
+some_query sound laws files input queries (bad place cause is) asks = (malformed place cause, inl is)
+some_query sound laws files input queries (gone is) asks = (missing, inl is)
+some_query sound laws files input queries (good index holds) (asked all are) =
+    let answers = some_answers laws index (found_is_index sound (get files input) index holds) all in
+    (done (printing (query_text index answers.0)), (index, all, answers.0, holds, are, answers.1, refl))
+some_query sound laws files input queries (good index holds) (long is) = (too_long, inr ((index, holds), inl is))
+some_query sound laws files input queries (good index holds) (faulty line at cause is) = (bad_query line at cause, inr ((index, holds), inl is))
+some_query sound laws files input queries (good index holds) (no_file is) = (missing, inr ((index, holds), inl is))
+
+pub some_outcome : EveryFileIsRead → AcceptedIsIndex → GeneratedIsIndex → AreThere → EveryFileHasVerdict → AnswerLaws → SomeOutcome
+some_outcome law sound generates laws verdicts answers (copy input output) files bytes = some_copy files input output (reading law (get files input) (bytes input))
+some_outcome law sound generates laws verdicts answers (report input workers) files bytes = some_report files input workers (reading law (get files input) (bytes input))
+some_outcome law sound generates laws verdicts answers (reorder input output options) files bytes = some_reorder sound laws files input output options (reading law (get files input) (bytes input))
+some_outcome law sound generates laws verdicts answers (query input queries) files bytes = some_query sound answers files input queries (reading law (get files input) (bytes input)) (asking verdicts (get files queries))
+some_outcome law sound generates laws verdicts answers (make documents output number options) files bytes = some_make generates laws files documents output number options

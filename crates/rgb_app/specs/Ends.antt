@@ -5,10 +5,10 @@ use Rattle.rgb_host.specs.Seen.{Seen, with_file, with_print, with_warning}
 use Rattle.rgb_host.specs.Seen.{ReadFailed, WriteFailed, WarnedThenFailed, PrintedThenFailed}
 use Rattle.command_words.specs.Line.{Word}
 use Rattle.command_words.specs.Command.{Command, IsCommand}
-use Rattle.rgb_app.specs.Outcome.{Written, Work, Outcome, done, malformed, missing, ComesTo}
+use Rattle.rgb_app.specs.Outcome.{Written, Work, Outcome, done, malformed, missing, bad_query, too_long, ComesTo}
 use Rattle.rgb_app.specs.Status.{code_of, warning_of, status_of}
 use Rattle.rgb_app.specs.declared.status.Status.{Status}
-use Rattle.rgb_app.specs.declared.status.Status.TheVariants.{Done, Usage, Malformed, ReadFault, WriteFault, Memory}
+use Rattle.rgb_app.specs.declared.status.Status.TheVariants.{Done, Usage, Malformed, ReadFault, WriteFault, Memory, BadQuery, TooLong}
 
 -- ---- what stands after the work
 
@@ -55,6 +55,9 @@ Says ReadFault command before after =
 Says WriteFault command before after =
     (work : Work) × MayComeTo command before (done work) × IsCutOff work before after
 Says Memory command before after = after ≡ before
+Says (BadQuery line at cause) command before after =
+    MayComeTo command before (bad_query line at cause) × (after ≡ before)
+Says TooLong command before after = MayComeTo command before too_long × (after ≡ before)
 Says Usage command before after = ⊥
 
 -- the words spell no command
@@ -92,6 +95,8 @@ IsDisturbed (done work) before after =
     Rose before.read_faults after.read_faults ⊎ Rose before.write_faults after.write_faults
 IsDisturbed (malformed place cause) before after = Rose before.read_faults after.read_faults
 IsDisturbed missing before after = Rose before.read_faults after.read_faults
+IsDisturbed (bad_query line at cause) before after = Rose before.read_faults after.read_faults
+IsDisturbed too_long before after = Rose before.read_faults after.read_faults
 
 -- where no failure was counted the number is that of the outcome, or memory ran out
 abbrev pub IsExact : List Word → Seen → Seen → ℕ → Type 0

@@ -1,3 +1,4 @@
+pub mod Answering
 pub mod Text
 pub mod Reordering
 pub mod Outcome

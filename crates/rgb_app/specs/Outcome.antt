@@ -8,29 +8,39 @@ use Rattle.ciff_format.specs.Accepted.{Accepted}
 use Rattle.ciff_format.specs.Refused.{Refused}
 use Rattle.ciff_format.specs.declared.cause.Cause.{Cause}
 use Rattle.command_words.specs.Line.{Word}
-use Rattle.command_words.specs.Command.{Command, copy, report, reorder, make}
+use Rattle.command_words.specs.Command.{Command, copy, report, reorder, query, make}
+use Rattle.query_file.specs.Queries.{Numbered, AreQueries, IsTooLong, IsFirstFault}
+use Rattle.query_file.specs.declared.error.LineCause.{LineCause}
 use Rattle.bisection.specs.declared.trace.KeptRound.{KeptRound}
-use Rattle.rgb_app.specs.Text.{index_line, report_text, reorder_text}
+use Rattle.rgb_app.specs.Text.{index_line, report_text, reorder_text, query_text}
 use Rattle.generated_index.specs.Generated.{generated}
 use Rattle.rgb_app.specs.Reordering.{IsReordered}
 use Rattle.rgb_app.specs.Summary.{IsSummary}
+use Rattle.rgb_app.specs.Answering.{AreAnswers}
+use Rattle.rgb_app.specs.declared.answers.Answer.{Answer}
 
 -- ---- what a command reads
 
 -- a file by its name, and what it is read as
 pub data Input : Type 0 where
   index_file : Word → Input
+  query_file : Word → Input
 
 -- the files that a command reads, in the order in which it reads them
 abbrev pub inputs_of : Command → List Input
 inputs_of (copy input output) = index_file input ∷ []
 inputs_of (report input workers) = index_file input ∷ []
 inputs_of (reorder input output options) = index_file input ∷ []
+inputs_of (query input queries) = index_file input ∷ query_file queries ∷ []
 inputs_of (make documents output number options) = []
 
 -- the named file is there, and is accepted as this index
 abbrev pub Holds : Files → Word → IndexParts → Type 0
 Holds files name index = IsSomeAnd (get files name) (λ file. Accepted file index)
+
+-- the named file is there, and is accepted as these queries
+abbrev pub HoldsQueries : Files → Word → List Numbered → Type 0
+HoldsQueries files name queries = IsSomeAnd (get files name) (λ file. AreQueries file queries)
 
 -- ---- what a command comes to
 
@@ -47,14 +57,19 @@ pub record Work : Type 0 where
 pub data Outcome : Type 0 where
   -- this work is done
   done : Work → Outcome
-  -- a file that is there is refused at this place for this cause
+  -- an index that is there is refused at this place for this cause
   malformed : ℕ → Cause → Outcome
   -- a file isn't there
   missing : Outcome
+  -- queries that are there are refused: in this line, at this byte of it, for this cause
+  bad_query : ℕ → ℕ → LineCause → Outcome
+  -- queries that are there are too many bytes
+  too_long : Outcome
 
 -- the input is there and accepted
 abbrev pub IsGood : Files → Input → Type 0
 IsGood files (index_file name) = (index : IndexParts) × Holds files name index
+IsGood files (query_file name) = (queries : List Numbered) × HoldsQueries files name queries
 
 -- the input isn't good, and this is the outcome of it
 abbrev pub Stops : Files → Input → Outcome → Type 0
@@ -62,6 +77,14 @@ Stops files (index_file name) (done work) = ⊥
 Stops files (index_file name) (malformed place cause) =
     IsSomeAnd (get files name) (λ file. Refused file place cause)
 Stops files (index_file name) missing = get files name ≡ None
+Stops files (index_file name) (bad_query line at cause) = ⊥
+Stops files (index_file name) too_long = ⊥
+Stops files (query_file name) (done work) = ⊥
+Stops files (query_file name) (malformed place cause) = ⊥
+Stops files (query_file name) missing = get files name ≡ None
+Stops files (query_file name) (bad_query line at cause) =
+    IsSomeAnd (get files name) (λ file. IsFirstFault file line at cause)
+Stops files (query_file name) too_long = IsSomeAnd (get files name) IsTooLong
 
 -- this is the outcome of the first input that isn't good: all before it are there and accepted
 abbrev pub FirstStops : Files → List Input → Outcome → Type 0
@@ -93,6 +116,10 @@ IsWork files (reorder input output options) work =
     (index new : IndexParts) × (trace : List KeptRound) × Holds files input index
     × IsReordered options index new trace
     × (work ≡ writing output (bytes_of new) (reorder_text index new trace))
+IsWork files (query input queries) work =
+    (index : IndexParts) × (asked : List Numbered) × (answers : List Answer)
+    × Holds files input index × HoldsQueries files queries asked
+    × AreAnswers index asked answers × (work ≡ printing (query_text index answers))
 IsWork files (make documents output number options) work =
     (text : List ℕ) × IsSummary options (index_made documents number) text
     × (work ≡ writing output (bytes_of (index_made documents number)) text)

@@ -1,12 +1,16 @@
 -- What is printed and warned, byte by byte. Each line ends with a line feed.
-use Rattle.std.specs.Prelude.{ℕ, List, [], ◌∷◌, ◌++◌, length, codes, decimal, flat_map}
+use Rattle.std.specs.Prelude.{ℕ, List, [], ◌∷◌, ◌++◌, length, codes, decimal, flat_map, slice_get, unwrap_or, option_map}
 use Rattle.std.specs.Fmt.{signed_decimal}
 use Rattle.rgb_base.specs.Parts.{IndexParts, posting_count}
 use Rattle.bisection.specs.declared.trace.KeptRound.{KeptRound}
 use Rattle.ciff_format.specs.declared.cause.Cause.{Cause}
 use Rattle.ciff_format.specs.declared.cause.Cause.TheVariants.{CutShort, BadLength, BadField, BadText, BadCount, BadGap, SameTerm, BadDoc, Trailing, TooMuch}
+use Rattle.bool_query.specs.declared.error.QueryCause.TheVariants.{Ended, Unexpected, OpenQuote, OpenParen, TooDeep}
+use Rattle.query_file.specs.declared.error.LineCause.{LineCause}
+use Rattle.query_file.specs.declared.error.LineCause.TheVariants.{NotText, NoQuery}
 use Rattle.gap_report.specs.declared.costs.Costs.{Costs}
 use Rattle.gap_report.specs.Costs.{costs_of}
+use Rattle.rgb_app.specs.declared.answers.Answer.{Answer}
 
 abbrev pub line_of : List ℕ → List ℕ
 line_of text = text ++ 10 ∷ []
@@ -64,6 +68,29 @@ abbrev pub make_text : IndexParts → IndexParts → List KeptRound → List ℕ
 make_text index new rounds =
     index_line index ++ (kept_line rounds ++ cost_lines (costs_of index) (costs_of new))
 
+-- how many documents the query of a line means
+abbrev pub query_words : ℕ → ℕ → List ℕ
+query_words line count = codes "query " ++ decimal line ++ codes " matches " ++ decimal count
+
+-- the number of a document, and its name as it stands
+abbrev pub document_words : IndexParts → ℕ → List ℕ
+document_words index doc =
+    decimal doc ++ codes " "
+    ++ unwrap_or (option_map (λ document. document.name) (slice_get index.documents doc)) []
+
+-- a line for each of these documents
+abbrev pub document_lines : IndexParts → List ℕ → List ℕ
+document_lines index ids = flat_map (λ doc. line_of (document_words index doc)) ids
+
+-- how many documents a query means, and a line for each of them
+abbrev pub answer_text : IndexParts → Answer → List ℕ
+answer_text index answer =
+    line_of (query_words answer.line (length answer.ids)) ++ document_lines index answer.ids
+
+-- the answers to the queries of a file
+abbrev pub query_text : IndexParts → List Answer → List ℕ
+query_text index answers = flat_map (answer_text index) answers
+
 -- ---- what is warned
 
 abbrev pub name_of : Cause → List ℕ
@@ -82,3 +109,16 @@ name_of TooMuch = codes "TooMuch"
 abbrev pub malformed_words : ℕ → Cause → List ℕ
 malformed_words place cause =
     codes "malformed " ++ decimal place ++ codes " " ++ name_of cause
+
+abbrev pub name_of_line_cause : LineCause → List ℕ
+name_of_line_cause NotText = codes "NotText"
+name_of_line_cause (NoQuery Ended) = codes "Ended"
+name_of_line_cause (NoQuery Unexpected) = codes "Unexpected"
+name_of_line_cause (NoQuery OpenQuote) = codes "OpenQuote"
+name_of_line_cause (NoQuery OpenParen) = codes "OpenParen"
+name_of_line_cause (NoQuery TooDeep) = codes "TooDeep"
+
+-- which line of a file of queries is at fault, at which of its bytes, and why
+abbrev pub bad_query_words : ℕ → ℕ → LineCause → List ℕ
+bad_query_words line at cause =
+    codes "query " ++ decimal line ++ codes " " ++ decimal at ++ codes " " ++ name_of_line_cause cause

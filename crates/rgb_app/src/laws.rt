@@ -2,10 +2,12 @@
 ghost use Rattle.rgb_app.specs.Laws.{OneOutcome, SomeOutcome};
 
 use bisection::laws::{bisection_is_one, each_document_once, numbering_of_is_there};
+use bool_query::answer_laws::{answer_is_one, answers_are_renumbered, store_answers_as_the_index};
 use ciff_format::laws::{every_file_is_read, file_is_one_index, never_both, refusal_is_one};
 use forward_index::laws::{forward_is_one, start_by_name_is_one};
 use generated_index::laws::generated_is_index;
 use postings_rewrite::laws::renumbering_is_one;
+use query_file::laws::{every_file_has_verdict, queries_are_one};
 
 /// A command over files of bytes comes to exactly one outcome.
 pub fn exactly_one_outcome()
@@ -16,6 +18,11 @@ pub fn exactly_one_outcome()
     refusal_is_one();
     never_both();
     every_file_is_read();
+    answer_is_one();
+    answers_are_renumbered();
+    store_answers_as_the_index();
+    queries_are_one();
+    every_file_has_verdict();
     generated_is_index();
     forward_is_one();
     start_by_name_is_one();

@@ -1,6 +1,7 @@
 //! The commands of the program, over a host.
 #![tactic(auto)]
 
+mod answers;
 pub mod laws;
 mod printing;
 mod reordering;

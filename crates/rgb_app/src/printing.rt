@@ -14,14 +14,14 @@ use rgb_host::{Failed, Host, print_all};
 const PIECE: usize = 65536;
 
 /// Bytes that are still to be printed.
-type Piece = ArrayString<PIECE>;
+pub(crate) type Piece = ArrayString<PIECE>;
 
 /// A line of a kept round. The longest has 133 bytes: six numbers of at most forty digits, and the
 /// words between them.
 type RoundLine = ArrayString<256>;
 
 /// Prints what is held.
-fn flush<H: Host>(held: &mut Piece, host: &mut H) -> Result<(), Failed>
+pub(crate) fn flush<H: Host>(held: &mut Piece, host: &mut H) -> Result<(), Failed>
     ensures ok { OnOk result
         (Adds [] held.old.bytes held.new.bytes (H.seen host.old) (H.seen host.new)) }
     ensures empty { OnOk result (held.new.bytes ≡ []) }
@@ -34,7 +34,7 @@ fn flush<H: Host>(held: &mut Piece, host: &mut H) -> Result<(), Failed>
 }
 
 /// Sends a text on its way: it is held, or printed where it is longer than what can be held.
-fn send<H: Host>(text: &str, held: &mut Piece, host: &mut H) -> Result<(), Failed>
+pub(crate) fn send<H: Host>(text: &str, held: &mut Piece, host: &mut H) -> Result<(), Failed>
     ensures ok { OnOk result
         (Adds text.now held.old.bytes held.new.bytes (H.seen host.old) (H.seen host.new)) }
     ensures fault { OnErr result

@@ -3,13 +3,14 @@ ghost use Rattle.std.specs.Prelude.{◌≡◌, ℕ, ◌<◌, ◌≤◌, ◌↔�
 ghost use Rattle.ciff_format.specs.Canonical.{bytes_of};
 ghost use Rattle.rgb_host.specs.Seen.{with_file};
 ghost use Rattle.bisection.specs.Progress.{AreOptions};
-ghost use Rattle.command_words.specs.Command.{copy, report, reorder, make, texts_of};
+ghost use Rattle.command_words.specs.Command.{copy, report, reorder, query, make, texts_of};
 ghost use Rattle.rgb_app.specs.Reordering.{options_of};
 ghost use Rattle.rgb_app.specs.Prepared.{text_of};
 ghost use Rattle.rgb_app.specs.Outcome.{writing, printing};
 ghost use Rattle.rgb_app.specs.Status.{code_of, warning_of};
 ghost use Rattle.rgb_app.specs.Ends.{delivered, IsCutOff, Says, SpellsNone, SpellsOne, Runs, Warned, Ends, IsExact};
 
+use crate::answers::{answers_to, print_answers};
 use crate::laws::exactly_one_outcome;
 use crate::printing::print_rounds;
 use crate::reordering::{Reordered, prepare, summary};
@@ -20,6 +21,7 @@ use ciff_writer::{WriteError, write_index};
 use command_words::{Command, Reordering, command_of};
 use gap_report::Costs;
 use generated_index::generate;
+use query_file::read_queries;
 use rgb_base::Index;
 use rgb_host::laws::created_then_appended;
 use rgb_host::{Failed, Host, print_all, warn_all};
@@ -132,6 +134,19 @@ fn reorder<R: Threads + Sync, H: Host>(
     Ok(())
 }
 
+/// Answers each query of one file over the index of another, and prints the answers.
+fn query<H: Host>(alloc: Global, host: &mut H, input: &str, queries: &str) -> Result<(), Status>
+    ensures says { MatchResult result
+        (λ _. Says Status.Done (query input.now queries.now) (H.seen host.old) (H.seen host.new))
+        (λ status. Says status (query input.now queries.now) (H.seen host.old) (H.seen host.new)) }
+{
+    let index = read_index(alloc, host, input)?;
+    let asked = read_queries(alloc, host, queries)?;
+    let answers = answers_to(alloc, &index, &asked)?;
+    print_answers(host, &index, &answers)?;
+    Ok(())
+}
+
 /// Draws an index of so many documents from a number and writes it to a file, and prints what its
 /// reordering comes to.
 fn make<R: Threads + Sync, H: Host>(
@@ -184,6 +199,7 @@ fn work<R: Threads + Sync, H: Host>(rt: &R, alloc: Global, words: &[String], hos
             output,
             options,
         } => reorder(rt, alloc, host, input, output, options),
+        Command::Query { input, queries } => query(alloc, host, input, queries),
         Command::Make {
             documents,
             output,

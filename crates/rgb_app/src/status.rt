@@ -1,13 +1,15 @@
 //! What a command ends with.
 ghost use Rattle.std.specs.Prelude.{◌≡◌, ◌<◌, ◌≤◌, length, option_map};
-ghost use Rattle.rgb_app.specs.Text.{line_of, name_of, malformed_words};
+ghost use Rattle.rgb_app.specs.Text.{line_of, name_of, malformed_words, name_of_line_cause, bad_query_words};
 ghost use Rattle.rgb_app.specs.Status.{code_of, warning_of};
 
 use arrayvec::ArrayString;
+use bool_query::QueryCause;
 use ciff_format::Cause;
 use ciff_reader::ReadError;
 use ciff_writer::WriteError;
 use itoa::Buffer;
+use query_file::{LineCause, QueriesError};
 use rgb_base::OutOfMemory;
 use rgb_host::Failed;
 
@@ -17,10 +19,22 @@ pub enum Status {
     Done,
     Usage,
     /// A file is refused: the byte at which the length of its first bad message starts, and why.
-    Malformed { place: u64, cause: Cause },
+    Malformed {
+        place: u64,
+        cause: Cause,
+    },
     ReadFault,
     WriteFault,
     Memory,
+    /// Queries are refused: the number of the first line at fault, from 1 on, the byte of the line,
+    /// and why.
+    BadQuery {
+        line: u32,
+        at: u32,
+        cause: LineCause,
+    },
+    /// Queries have more than 2^24 bytes.
+    TooLong,
 }
 
 impl From<ReadError> for Status {
@@ -34,6 +48,26 @@ impl From<ReadError> for Status {
             ReadError::Fault => Status::ReadFault,
             ReadError::Malformed { place, cause } => Status::Malformed { place, cause },
             ReadError::OutOfMemory => Status::Memory,
+        }
+    }
+}
+
+impl From<QueriesError> for Status {
+    ghost use Rattle.std.specs.Prelude.{◌≡◌};
+    ghost use Rattle.rgb_app.specs.Status.{status_of_queries};
+
+    ghost from_gives = { λ error status. status ≡ status_of_queries error };
+
+    fn from(error: QueriesError) -> Self {
+        match error {
+            QueriesError::Fault => Status::ReadFault,
+            QueriesError::OutOfMemory => Status::Memory,
+            QueriesError::TooLong => Status::TooLong,
+            QueriesError::BadLine(fault) => Status::BadQuery {
+                line: fault.line,
+                at: fault.at,
+                cause: fault.cause,
+            },
         }
     }
 }
@@ -93,6 +127,21 @@ fn name_of(cause: Cause) -> &'static str
     }
 }
 
+/// The name of what is wrong with a line of queries, as it is warned.
+fn name_of_line_cause(cause: LineCause) -> &'static str
+    ensures name { result.now ≡ name_of_line_cause cause }
+    ensures short { length result.now ≤ 10 }
+{
+    match cause {
+        LineCause::NotText => "NotText",
+        LineCause::NoQuery(QueryCause::Ended) => "Ended",
+        LineCause::NoQuery(QueryCause::Unexpected) => "Unexpected",
+        LineCause::NoQuery(QueryCause::OpenQuote) => "OpenQuote",
+        LineCause::NoQuery(QueryCause::OpenParen) => "OpenParen",
+        LineCause::NoQuery(QueryCause::TooDeep) => "TooDeep",
+    }
+}
+
 /// The line of these words.
 fn line_of(words: &str) -> Line
     requires { length words.now < 64 }
@@ -118,6 +167,23 @@ fn malformed_line(place: u64, cause: Cause) -> Line
     line
 }
 
+/// The line of queries that are refused. It has at most 39 bytes: the words, two numbers of ten
+/// digits and a cause of ten letters.
+fn bad_query_line(line: u32, at: u32, cause: LineCause) -> Line
+    ensures { result.bytes ≡ line_of (bad_query_words line at cause) }
+{
+    let mut digits = Buffer::new();
+    let mut words = Line::new();
+    words.push_str("query ");
+    words.push_str(digits.format(line));
+    words.push_str(" ");
+    words.push_str(digits.format(at));
+    words.push_str(" ");
+    words.push_str(name_of_line_cause(cause));
+    words.push_str("\n");
+    words
+}
+
 impl Status {
     /// The number that the program ends with.
     pub(crate) fn code(self) -> u8
@@ -130,6 +196,8 @@ impl Status {
             Status::ReadFault => 4,
             Status::WriteFault => 5,
             Status::Memory => 6,
+            Status::BadQuery { .. } => 7,
+            Status::TooLong => 8,
         }
     }
 
@@ -144,6 +212,8 @@ impl Status {
             Status::ReadFault => Some(line_of("read fault")),
             Status::WriteFault => Some(line_of("write fault")),
             Status::Memory => Some(line_of("memory")),
+            Status::BadQuery { line, at, cause } => Some(bad_query_line(line, at, cause)),
+            Status::TooLong => Some(line_of("queries too long")),
         }
     }
 }

@@ -1,6 +1,8 @@
 //! Rows in which one call of the host fails, for each call in turn until none is left to fail.
 use rgb_host::MemoryHost;
-use rgb_runs::{MADE_THREE, OF_MADE_THREE, SIX, SIX_REORDERED, Setting, bytes_of, has_told, run};
+use rgb_runs::{
+    MADE_THREE, OF_MADE_THREE, SIX, SIX_REORDERED, Setting, bytes_of, has_told, run_over,
+};
 use std::test::Fail;
 use std::thread::Threads;
 
@@ -32,10 +34,11 @@ impl Calls {
     }
 }
 
-/// A command over `SIX`, the bytes that it writes, and the text that it prints.
+/// A command over `SIX` and some queries, the bytes that it writes, and the text that it prints.
 #[derive(Clone, Copy)]
 struct Command<'a> {
     words: &'a str,
+    queries: &'a [u8],
     written: &'a [u8],
     printed: &'a str,
 }
@@ -75,7 +78,10 @@ fn failing_calls<R: Threads + Sync + AllocGlobal>(
     most: u32,
 ) -> Result<Option<u64>, Fail> {
     for call in 1..2000 {
-        let (status, host) = run(rt, command.words, six, calls.failing(&[call], most))?;
+        let files = [("in", six), ("queries", command.queries)];
+        let numbers = [call];
+        let setting = calls.failing(&numbers, most);
+        let (status, host) = run_over(rt, command.words, &files, setting)?;
         if status == 0 && command.is_whole(&host) {
             return Ok(Some(call - 1));
         }
@@ -107,6 +113,7 @@ fn each_call_of_copy(rt: HostRuntime) -> Result<(), Fail> {
     let six = bytes_of(rt.alloc(), SIX)?;
     let command = Command {
         words: "copy in out",
+        queries: b"",
         written: &six,
         printed: "documents 6 lists 2 postings 6\n",
     };
@@ -124,6 +131,7 @@ fn each_call_of_report(rt: HostRuntime) -> Result<(), Fail> {
     let six = bytes_of(rt.alloc(), SIX)?;
     let command = Command {
         words: "report in",
+        queries: b"",
         written: b"",
         printed: "documents 6 lists 2 postings 6\ngamma 12 delta 15 bytes 6\n",
     };
@@ -142,6 +150,7 @@ fn each_call_of_make(rt: HostRuntime) -> Result<(), Fail> {
     let made = bytes_of(rt.alloc(), MADE_THREE)?;
     let command = Command {
         words: "make 3 out",
+        queries: b"",
         written: &made,
         printed: OF_MADE_THREE,
     };
@@ -160,10 +169,33 @@ fn each_call_of_reorder(rt: HostRuntime) -> Result<(), Fail> {
     let reordered = bytes_of(rt.alloc(), SIX_REORDERED)?;
     let command = Command {
         words: "reorder in out --depth 1 --leaf 1",
+        queries: b"",
         written: &reordered,
         printed: "documents 6 lists 2 postings 6\nround 0 0 6 1 76672 -163200\n\
             before gamma 12 delta 15 bytes 6\nafter gamma 10 delta 10 bytes 6\n",
     };
     assert!(rt; each_can_fail(&rt, command, &six)?);
+    Ok(())
+}
+
+#[test]
+fn each_call_of_query(rt: HostRuntime) -> Result<(), Fail> {
+    let six = bytes_of(rt.alloc(), SIX)?;
+    let command = Command {
+        words: "query in queries",
+        queries: b"a\nNOT a",
+        written: b"",
+        printed: "query 1 matches 3\n0 d0\n1 d1\n3 d3\nquery 2 matches 3\n2 d2\n4 d4\n5 d5\n",
+    };
+    assert!(rt; each_can_fail(&rt, command, &six)?);
+    // 66 printed bytes, byte by byte; 109 read ones and 7, and a read at the end of each file.
+    assert_eq!(rt;
+        failing_calls(&rt, command, &six, Calls::Writes, 1)?,
+        Some(66)
+    );
+    assert_eq!(rt;
+        failing_calls(&rt, command, &six, Calls::Reads, 1)?,
+        Some(118)
+    );
     Ok(())
 }

@@ -114,8 +114,19 @@ pub fn words_of(alloc: Global, text: &str) -> Result<Vec<String>, Fail> {
 
 /// A host whose file `in` has these bytes.
 pub fn host_with(alloc: Global, bytes: &[u8], setting: Setting<'_>) -> Result<MemoryHost, Fail> {
+    host_of(alloc, &[("in", bytes)], setting)
+}
+
+/// A host of these files.
+pub fn host_of(
+    alloc: Global,
+    named: &[(&str, &[u8])],
+    setting: Setting<'_>,
+) -> Result<MemoryHost, Fail> {
     let mut files = BTreeMap::new(alloc);
-    files.insert(String::from_str(alloc, "in")?, bytes.to_vec(alloc)?)?;
+    for (name, bytes) in named {
+        files.insert(String::from_str(alloc, *name)?, bytes.to_vec(alloc)?)?;
+    }
     let reads = Numbers::of(setting.failing_reads.to_vec(alloc)?);
     let writes = Numbers::of(setting.failing_writes.to_vec(alloc)?);
     Ok(MemoryHost::new(
@@ -134,8 +145,18 @@ pub fn run<R: Threads + Sync + AllocGlobal>(
     bytes: &[u8],
     setting: Setting<'_>,
 ) -> Result<(u8, MemoryHost), Fail> {
+    run_over(rt, words, &[("in", bytes)], setting)
+}
+
+/// The status of a command over a host of these files, and that host.
+pub fn run_over<R: Threads + Sync + AllocGlobal>(
+    rt: &R,
+    words: &str,
+    files: &[(&str, &[u8])],
+    setting: Setting<'_>,
+) -> Result<(u8, MemoryHost), Fail> {
     let words = words_of(rt.alloc(), words)?;
-    let mut host = host_with(rt.alloc(), bytes, setting)?;
+    let mut host = host_of(rt.alloc(), files, setting)?;
     let status = run_plain(rt, rt.alloc(), &words, &mut host);
     Ok((status, host))
 }

@@ -1,4 +1,4 @@
-use Rattle.std.proofs.Common.{[], ◌∷◌}
+use Rattle.std.proofs.Common.{◌∷◌}
 use Rattle.command_words.specs.Line.{Follow}
 use Rattle.command_words.specs.Command.{texts_of, number_option, reordering_options}
 use Rattle.command_words.proofs.Lines.{make_line, no_documents, no_number, no_made_reordering}

@@ -1,5 +1,6 @@
 use Rattle.rgb_app.proofs.Reorderings.{AreOne, AreThere}
-use Rattle.rgb_app.proofs.Outcomes.{one_outcome, some_outcome}
+use Rattle.rgb_app.proofs.Answerings.{AnswerLaws}
+use Rattle.rgb_app.proofs.Outcomes.{QueryLaws, one_outcome, some_outcome}
 use Rattle.rgb_app.proofs.laws.exactly_one_outcome.Goals as goal
 
 pub returns : goal.returns
@@ -17,7 +18,18 @@ returns c =
       documents = c.each_document_once.ensures.law;
       renumbered = c.renumbering_is_one.ensures.there;
     } in
+    let answers : AnswerLaws = record {
+      one = c.answer_is_one.ensures.law;
+      stored = c.store_answers_as_the_index.ensures.law;
+      below = c.answers_are_renumbered.ensures.below;
+    } in
+    let told : QueryLaws = record {
+      queries = c.queries_are_one.ensures.queries;
+      fault = c.queries_are_one.ensures.fault;
+      never_both = c.queries_are_one.ensures.never_both;
+      answers = answers;
+    } in
     record {
-      one = one_outcome c.file_is_one_index.ensures.one c.refusal_is_one.ensures.one c.never_both.ensures.never_both ones;
-      some = some_outcome c.every_file_is_read.ensures.read c.file_is_one_index.ensures.sound c.generated_is_index.ensures.law theirs;
+      one = one_outcome c.file_is_one_index.ensures.one c.refusal_is_one.ensures.one c.never_both.ensures.never_both ones told;
+      some = some_outcome c.every_file_is_read.ensures.read c.file_is_one_index.ensures.sound c.generated_is_index.ensures.law theirs c.every_file_has_verdict.ensures.some answers;
     }

@@ -1,4 +1,4 @@
-use Rattle.std.proofs.Common.{◌≡◌, ◌++◌, length, codes, decimal, string_bytes, ◌∙◌, ap}
+use Rattle.std.proofs.Common.{◌≡◌, ◌++◌, length, codes, decimal, string_bytes, ap}
 use Rattle.gap_report.specs.Costs.{costs_of}
 use Rattle.rgb_app.specs.Text.{line_of, index_line, cost_lines}
 use Rattle.rgb_app.specs.Summary.{IsSummary}

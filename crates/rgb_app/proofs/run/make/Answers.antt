@@ -1,4 +1,4 @@
-use Rattle.std.proofs.Common.{◌∙◌, string_bytes}
+use Rattle.std.proofs.Common.{string_bytes}
 use Rattle.command_words.specs.Command.{make}
 use Rattle.rgb_app.specs.Ends.{Says}
 use Rattle.rgb_app.specs.declared.status.Status.TheVariants.{Done, WriteFault}
