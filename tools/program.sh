@@ -139,6 +139,26 @@ row 0 $'documents 0 lists 0 postings 0\nkept 0\nbefore gamma 0 delta 0 bytes 0\n
     make --number 4294967295 0 made.ciff
 tell "$(wc -c <made.ciff)" 25 'the size of an index of no documents'
 
+# What plain sets in another language answer over birds.ciff.
+"$program" query "$birds" "${birds%.ciff}.queries" >printed 2>warned
+tell "$? $(cat warned)" '0 ' 'status of: query of birds.queries'
+tell "$(cksum <printed)" '3890458072 161526' 'printed by: query of birds.queries'
+# Over the file renumbered each query means the same documents, with other numbers.
+"$program" reorder "$birds" other.ciff >printed_by_reorder
+"$program" query other.ciff "${birds%.ciff}.queries" >printed_by_other
+named() { awk '/^query /{ line = $2; print; next } { print "query", line, $2 }' "$1" | LC_ALL=C sort; }
+named printed >names
+named printed_by_other >names_by_other
+tell "$(same names names_by_other)" same 'names that queries mean over birds.ciff and over it reordered'
+tell "$(same printed printed_by_other)" different 'numbers that queries mean over birds.ciff and over it reordered'
+printf 'a AND NOT b\r\n\n\tNOT "a"' >some.queries
+row 0 $'query 1 matches 1\n0 x\nquery 3 matches 0' '' query one.ciff some.queries
+row 0 $'query 1 matches 0\nquery 3 matches 2\n0 \n1 ' '' query two.ciff some.queries
+: >no.queries
+row 0 '' '' query many.ciff no.queries
+head -c 16777216 /dev/zero | tr '\0' '\n' >most.queries
+row 0 '' '' query one.ciff most.queries
+
 row 2 '' usage
 row 2 '' usage Copy one.ciff no.ciff
 row 2 '' usage copy one.ciff
@@ -152,6 +172,8 @@ row 2 '' usage report one.ciff --workers
 row 2 '' usage reorder one.ciff no.ciff --depth 32
 row 2 '' usage reorder one.ciff no.ciff --start doc
 row 2 '' usage reorder one.ciff no.ciff --depth=3
+row 2 '' usage query one.ciff
+row 2 '' usage query one.ciff some.queries --workers 1
 row 2 '' usage make x no.ciff
 row 2 '' usage make 1000001 no.ciff
 row 2 '' usage make 3 no.ciff --number 4294967296
@@ -167,9 +189,19 @@ done
 row 4 '' 'read fault' copy missing.ciff no.ciff
 row 4 '' 'read fault' report missing.ciff
 row 4 '' 'read fault' reorder missing.ciff no.ciff
+row 4 '' 'read fault' query missing.ciff some.queries
+row 4 '' 'read fault' query one.ciff missing.queries
+row 3 '' 'malformed 25 Trailing' query longer.ciff missing.queries
 row 4 '' 'read fault' copy . no.ciff
 row 4 '' 'read fault' report .
 tell "$([ -e no.ciff ] && echo there || echo none)" none 'no.ciff'
+
+printf 'a\n\na b\n' >bad.queries
+row 7 '' 'query 3 2 Unexpected' query one.ciff bad.queries
+printf '\377' >bad.queries
+row 7 '' 'query 1 0 NotText' query one.ciff bad.queries
+printf '\n' >>most.queries
+row 8 '' 'queries too long' query one.ciff most.queries
 
 row 5 '' 'write fault' copy one.ciff missing/no.ciff
 row 5 '' 'write fault' copy one.ciff .
@@ -183,6 +215,7 @@ tell "$(bytes whole.ciff)" "$one" 'whole.ciff'
 row 5 '' 'write fault' reorder one.ciff whole.ciff
 tell "$(bytes whole.ciff)" "$one" 'whole.ciff reordered'
 row 5 '' 'write fault' report one.ciff
+row 5 '' 'write fault' query one.ciff some.queries
 
 echo "program: $passed passed, $failed failed"
 [ "$failed" -eq 0 ]
