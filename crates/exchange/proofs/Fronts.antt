@@ -1,5 +1,5 @@
 -- Halves of which a front is ranked, and the same halves ranked as a whole.
-use Rattle.std.proofs.Common.{Less, Equal, Greater, ◌≡◌, ◌≢◌, ◌⊎◌, ℕ, zero, suc, ◌+◌, ◌-◌, ◌/◌, ◌^◌, ◌<◌, ◌≤◌, ℤ, pos, ◌+ℤ◌, ◌<ℤ◌, ◌≤ℤ◌, List, [], ◌∷◌, ◌++◌, length, get_or, take, drop, refl, sym, subst, ap, ◌∙◌, All, inl, inr, arith}
+use Rattle.std.proofs.Common.{Less, Equal, Greater, ◌≡◌, ◌≢◌, ◌⊎◌, ℕ, zero, suc, ◌-◌, ◌/◌, ◌^◌, ◌<◌, ◌≤◌, ℤ, pos, ◌+ℤ◌, ◌<ℤ◌, ◌≤ℤ◌, List, [], ◌∷◌, ◌++◌, length, get_or, take, drop, refl, sym, subst, ap, ◌∙◌, All, inl, inr, arith}
 use Rattle.std.specs.List.{AllPairs}
 use Rattle.std.specs.List.Sorted.{IsPermutation}
 use Rattle.std.specs.declared.cmp.Ordering.{Ordering}
@@ -7,10 +7,10 @@ use Rattle.std.specs.Ordering.{nat_cmp, int_cmp}
 use Rattle.std.proofs.lemmas.Bool.{cases_lt}
 use Rattle.std.proofs.lemmas.Cmp.{ranked, int_ranked}
 use Rattle.std.proofs.lemmas.Int.{ints}
-use Rattle.std.proofs.lemmas.List.{length-append, length-take, length-map, take-map, drop-map, take-append-drop, take-append-le, drop-append-le, get_or_append_left, get_or-append-add, get_or-take}
-use Rattle.std.proofs.lemmas.List.Elements.{All-head, All-tail, All-cons, All-append, All-take}
+use Rattle.std.proofs.lemmas.List.{length-append, length-take, length-drop, length-map, take-map, drop-map, take-append-drop, take-append-le, drop-append-le, get_or_append_left, get_or-append-add, get_or-drop}
+use Rattle.std.proofs.lemmas.List.Elements.{All-head, All-tail, All-cons, All-append}
 use Rattle.std.proofs.lemmas.List.Kept.{AllPairs-cons}
-use Rattle.std.proofs.lemmas.List.Sorted.{IsPermutation-refl, IsPermutation-sym, IsPermutation-trans, IsPermutation-cons, IsPermutation-append_comm, IsPermutation-append_left, IsPermutation-append_right, IsPermutation-append, IsPermutation-map, length_permutation, All-permutation}
+use Rattle.std.proofs.lemmas.List.Sorted.{IsPermutation-refl, IsPermutation-sym, IsPermutation-trans, IsPermutation-cons, IsPermutation-append_comm, IsPermutation-append_left, IsPermutation-append_right, IsPermutation-map, length_permutation, All-permutation}
 use Rattle.exchange.specs.declared.entry.Entry.{Entry}
 use Rattle.std.proofs.Math.Nat.{div-le_self}
 use Rattle.rgb_base.specs.declared.parts.Side.TheVariants.{A, B}
@@ -20,7 +20,7 @@ use Rattle.degrees.specs.Counts.{Counted, loaded, cost_of, degrees_of}
 use Rattle.exchange.specs.declared.tries.Tried.{Tried}
 use Rattle.exchange.proofs.Moved.{degree-permutation, degrees_of-same}
 use Rattle.exchange.proofs.Outcome.{AreRanked, AreRanked-from, same_tables}
-use Rattle.exchange.specs.Tries.{docs_of, no_entry, HasGain, half_after, tried, cost_tried, IsFirstLess, StandsBefore, gaining, IsParted, ArePassed, IsRankedTo, HavePairs}
+use Rattle.exchange.specs.Tries.{docs_of, no_entry, HasGain, half_after, tried, cost_tried, IsFirstLess, StandsBefore, IsParted, ArePassed, IsRankedTo, HavePairs}
 use Rattle.exchange.proofs.Exchanged.{Differ}
 use Rattle.exchange.proofs.Ranked.{doc_at, gaining_is}
 
@@ -47,7 +47,7 @@ later x xs all k d within = all 0 (suc k) d (omega arith) (omega (arith, within)
 rest_of : (x : Entry) (xs : List Entry) → AllPairs StandsBefore (x ∷ xs) → AllPairs StandsBefore xs
 rest_of x xs all i j d order within = all (suc i) (suc j) d (omega (arith, order)) (omega (arith, within))
 
-pairs_append : (xs ys : List Entry) → AllPairs StandsBefore xs → AllPairs StandsBefore ys → All (λ x. All (StandsBefore x) ys) xs → AllPairs StandsBefore (xs ++ ys)
+pub pairs_append : (xs ys : List Entry) → AllPairs StandsBefore xs → AllPairs StandsBefore ys → All (λ x. All (StandsBefore x) ys) xs → AllPairs StandsBefore (xs ++ ys)
 pairs_append [] ys one two across = two
 pairs_append (x ∷ xs) ys one two across =
     AllPairs-cons StandsBefore x (xs ++ ys) (All-append (StandsBefore x) xs ys (later x xs one) (All-head (λ y. All (StandsBefore y) ys) x xs across)) (pairs_append xs ys (rest_of x xs one) two (All-tail (λ y. All (StandsBefore y) ys) x xs across))
@@ -92,7 +92,7 @@ pub record IsWhole (front : ℕ) (other : ℤ) (xs whole : List Entry) : Type 0 
   pub at : (k : ℕ) (d : Entry) → k < front → get_or whole k d ≡ get_or (take front xs) k d
   pub low : (k : ℕ) (d : Entry) → front ≤ k → k < length whole → ((get_or whole k d).gain +ℤ other) ≤ℤ pos 0
 
-differ_drop : (f : ℕ) (xs : List Entry) → Differ (docs_of xs) → Differ (docs_of (drop f xs))
+pub differ_drop : (f : ℕ) (xs : List Entry) → Differ (docs_of xs) → Differ (docs_of (drop f xs))
 differ_drop zero xs differ = differ
 differ_drop (suc f) [] differ = differ
 differ_drop (suc f) (x ∷ xs) differ = differ_drop f xs (apart_behind x xs differ)
@@ -129,17 +129,24 @@ whole_of f other xs differ parted order =
 
 -- ---- the pairs of both
 
-pub pairs_of : (fa fb pairs : ℕ) (most_a most_b : ℤ) (xs ys : List Entry) → Differ (docs_of xs) → Differ (docs_of ys) → All (λ x. x.gain ≤ℤ most_a) xs → All (λ y. y.gain ≤ℤ most_b) ys
-    → IsParted fa most_b xs → IsParted fb most_a ys → AllPairs StandsBefore (take fa xs) → AllPairs StandsBefore (take fb ys) → ArePassed pairs (take fa xs) (take fb ys) → HavePairs pairs xs ys
-pairs_of fa fb pairs most_a most_b xs ys differ_x differ_y high_x high_y parted_x parted_y order_x order_y passed =
-    let x = whole_of fa most_b xs differ_x parted_x order_x in
-    let y = whole_of fb most_a ys differ_y parted_y order_y in
+-- no entry from a place on is above a gain, so that the one which is ranked there isn't
+high_at : (u : ℤ) (k f : ℕ) (xs whole : List Entry) → f ≡ k → IsPermutation (drop k xs) (drop k whole) → All (λ e. e.gain ≤ℤ u) (drop f xs) → k < length whole → (get_or whole k no_entry).gain ≤ℤ u
+high_at u k f xs whole is same high inside =
+    let here = subst (λ (n : ℕ). All (λ e. e.gain ≤ℤ u) (drop n xs)) is high in
+    let there = All-permutation (λ e. e.gain ≤ℤ u) (drop k xs) (drop k whole) same here in
+    let first = get_or-drop k whole 0 no_entry in
+    let low = there 0 no_entry (omega (arith, inside, length-drop k whole)) in
+    subst (λ (e : Entry). e.gain ≤ℤ u) (first ∙ ap (λ (n : ℕ). get_or whole n no_entry) (omega arith)) low
+
+pub pairs_of : (fa fb pairs : ℕ) (u v : ℤ) (xs ys : List Entry) → Differ (docs_of xs) → Differ (docs_of ys) → All (λ x. x.gain ≤ℤ v) (drop fb xs) → All (λ y. y.gain ≤ℤ u) (drop fa ys)
+    → IsParted fa u xs → IsParted fb v ys → AllPairs StandsBefore (take fa xs) → AllPairs StandsBefore (take fb ys) → ArePassed pairs (take fa xs) (take fb ys) → HavePairs pairs xs ys
+pairs_of fa fb pairs u v xs ys differ_x differ_y high_x high_y parted_x parted_y order_x order_y passed =
+    let x = whole_of fa u xs differ_x parted_x order_x in
+    let y = whole_of fb v ys differ_y parted_y order_y in
     let len_x = front_len fa xs parted_x.within in
     let len_y = front_len fb ys parted_y.within in
     let all_x = length_permutation xs x.0 x.1.same in
     let all_y = length_permutation ys y.0 y.1.same in
-    let high_a = All-permutation (λ e. e.gain ≤ℤ most_a) xs x.0 x.1.same high_x in
-    let high_b = All-permutation (λ e. e.gain ≤ℤ most_b) ys y.0 y.1.same high_y in
     let in_x : pairs ≤ length xs = omega (arith, passed.within_a, len_x, parted_x.within) in
     let in_y : pairs ≤ length ys = omega (arith, passed.within_b, len_y, parted_y.within) in
     record {
@@ -173,12 +180,16 @@ pairs_of fa fb pairs most_a most_b xs ys differ_x differ_y high_x high_y parted_
                       omega (arith, ints, at_x, at_y, next)
                   | inr late_y ↦
                       let low = y.1.low pairs no_entry late_y inside_y in
-                      let high = high_a pairs no_entry inside_x in
+                      let at_end : fb ≡ pairs = omega (arith, late_y, passed.within_b, len_y) in
+                      let behind = x.1.behind pairs (omega (arith, passed.within_a, len_x)) in
+                      let high = high_at v pairs fb xs x.0 at_end behind high_x inside_x in
                       omega (arith, ints, low, high)
                 ]
             | inr late_x ↦
                 let low = x.1.low pairs no_entry late_x inside_x in
-                let high = high_b pairs no_entry inside_y in
+                let at_end : fa ≡ pairs = omega (arith, late_x, passed.within_a, len_x) in
+                let behind = y.1.behind pairs (omega (arith, passed.within_b, len_y)) in
+                let high = high_at u pairs fa ys y.0 at_end behind high_y inside_y in
                 omega (arith, ints, low, high)
           ]);
     }

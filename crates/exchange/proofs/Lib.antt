@@ -8,6 +8,7 @@ pub mod Many
 pub mod Steps
 pub mod Parted
 pub mod Fronts
+pub mod Longer
 pub mod Cascade
 pub mod Outcome
 pub mod Rounds

@@ -1,5 +1,5 @@
 -- What the tries over ranked entries say of the halves themselves.
-use Rattle.std.proofs.Common.{◌≡◌, ℕ, zero, suc, ◌+◌, ◌-◌, ◌/◌, ◌^◌, ◌<◌, ◌≤◌, ℤ, pos, ◌+ℤ◌, ◌<ℤ◌, ◌≤ℤ◌, Bool, cond, List, [], ◌∷◌, ◌++◌, length, get_or, map, take, refl, sym, subst, ap, ◌∙◌, All, inl, inr, ◌==◌, arith}
+use Rattle.std.proofs.Common.{◌≡◌, ℕ, zero, suc, ◌+◌, ◌/◌, ◌^◌, ◌<◌, ◌≤◌, ℤ, pos, ◌+ℤ◌, ◌<ℤ◌, ◌≤ℤ◌, Bool, cond, List, [], ◌∷◌, ◌++◌, length, get_or, map, take, refl, sym, subst, ap, ◌∙◌, All, inl, inr, ◌==◌, arith}
 use Rattle.std.specs.Prelude.{int_lt}
 use Rattle.std.specs.List.{AllPairs, zip, prefix_len}
 use Rattle.std.specs.List.Sorted.{IsPermutation, IsStrictlyIncreasing}

@@ -1,5 +1,5 @@
 -- Entries of which some are put in front.
-use Rattle.std.proofs.Common.{◌≡◌, ◌≢◌, ℕ, ◌+◌, ◌-◌, ◌^◌, ◌<◌, ◌≤◌, ℤ, pos, ◌+ℤ◌, ◌<ℤ◌, ◌≤ℤ◌, true, false, to_z, of_z, w64, List, ◌++◌, length, get_or, take, drop, sym, subst, ap, ◌∙◌, All, inl, inr, arith}
+use Rattle.std.proofs.Common.{◌≡◌, ℕ, ◌+◌, ◌^◌, ◌<◌, ◌≤◌, ℤ, pos, ◌+ℤ◌, ◌<ℤ◌, ◌≤ℤ◌, true, false, to_z, of_z, w64, List, ◌++◌, length, get_or, take, drop, sym, subst, ap, ◌∙◌, All, inl, inr, arith}
 use lib.Signed.{lt_z}
 use Rattle.std.specs.List.{SwappedAt}
 use Rattle.std.specs.List.Sorted.{IsPermutation}

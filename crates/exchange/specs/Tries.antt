@@ -144,6 +144,16 @@ pub record ArePassed (pairs : ℕ) (a b : List Entry) : Type 0 where
   pub passed : (k : ℕ) → k < pairs → pos 0 <ℤ sum_at a b k
   pub next : pairs < length a → pairs < length b → sum_at a b pairs ≤ℤ pos 0
 
+-- The entries in front are ranked, and no entry behind them has a positive sum with one of the
+-- others at its rank or behind.
+pub record IsFront (front : ℕ) (others entries : List Entry) : Type 0 where
+  pub other : ℤ
+  pub least : pos 0 ≤ℤ other
+  pub parted : IsParted front other entries
+  pub ranked : AllPairs StandsBefore (take front entries)
+  pub high : All (λ entry. entry.gain ≤ℤ other) (drop front others)
+  pub behind : All (λ entry. entry.gain ≤ℤ pos 0) (drop (length others) entries)
+
 -- The ranked list of all entries: as far as the pairs go it differs from the entries behind a front
 -- alone.
 pub record IsRankedTo (pairs : ℕ) (entries ranked : List Entry) : Type 0 where

@@ -1,6 +1,6 @@
 //! Halves of which those documents that may be exchanged are ranked by their gains.
-ghost use Rattle.std.specs.Prelude.{◌≡◌, ◌≢◌, ◌≤ℤ◌, ◌<ℤ◌, ◌+ℤ◌, pos, ◌^◌, length, map, take, All, AllPairs, IsPermutation};
-ghost use Rattle.exchange.specs.Tries.{StandsBefore, docs_of, IsWithin, IsLow, IsParted, ArePassed, HavePairs};
+ghost use Rattle.std.specs.Prelude.{◌≡◌, ◌≢◌, ◌≤ℤ◌, ◌<ℤ◌, ◌+ℤ◌, pos, ◌^◌, ◌≤◌, length, map, take, All, AllPairs, IsPermutation};
+ghost use Rattle.exchange.specs.Tries.{StandsBefore, docs_of, IsWithin, IsLow, IsParted, ArePassed, IsFront, HavePairs};
 ghost use Rattle.exchange.specs.Keys.{entry_at, IsNear};
 
 use crate::ground::MANY;
@@ -128,71 +128,90 @@ pub(crate) fn rank_pairs<R: Threads + Sync>(
     ensures same_b { IsPermutation b.old b.new }
     ensures pairs { HavePairs result a.new b.new }
 {
-    // A document whose gain and the greatest of the other half have no positive sum is in no pair
-    // that gains something, so that its rank isn't needed.
-    let greatest_a = greatest(a);
-    let greatest_b = greatest(b);
-    let (front_a, front_b) = rank_fronts(rt, a, b, greatest_a, greatest_b, keys_a, keys_b, workers);
-    gaining_pairs(&a[..front_a], &b[..front_b])
+    let (front_a, front_b) = rank_fronts(rt, a, b, keys_a, keys_b, workers);
+    // Behind the longer front no document gains something, so that no pair does.
+    if front_a < front_b {
+        let reach = rank_more(a, front_a, &b[..front_b], keys_a);
+        gaining_pairs(&a[..reach], &b[..front_b])
+    } else {
+        let reach = rank_more(b, front_b, &a[..front_a], keys_b);
+        gaining_pairs(&a[..front_a], &b[..reach])
+    }
 }
 
-/// Puts the entries of each half that have a positive sum with the greatest gain of the other in
-/// front, in the order of their ranks. Gives how many.
+/// Puts the entries of each half that gain something in front, in the order of their ranks. Gives
+/// how many.
 fn rank_fronts<R: Threads + Sync>(
     rt: &R,
     a: &mut [Entry],
     b: &mut [Entry],
-    greatest_a: i64,
-    greatest_b: i64,
     keys_a: &mut [u64],
     keys_b: &mut [u64],
     workers: u32,
 ) -> (usize, usize)
     requires low_a { All IsLow a.old }
     requires low_b { All IsLow b.old }
-    requires small_a { IsWithin (2 ^ 56) greatest_a }
-    requires small_b { IsWithin (2 ^ 56) greatest_b }
-    requires most_a { All (λ entry. entry.gain ≤ℤ greatest_a) a.old }
-    requires most_b { All (λ entry. entry.gain ≤ℤ greatest_b) b.old }
     requires differ_a { AllPairs (λ x y. x ≢ y) (docs_of a.old) }
     requires differ_b { AllPairs (λ x y. x ≢ y) (docs_of b.old) }
     requires room { length keys_a.old ≡ length a.old }
     requires room_b { length keys_b.old ≡ length b.old }
     ensures same_a { IsPermutation a.old a.new }
     ensures same_b { IsPermutation b.old b.new }
-    ensures parted_a { IsParted result.0 greatest_b a.new }
-    ensures parted_b { IsParted result.1 greatest_a b.new }
+    ensures parted_a { IsParted result.0 (pos 0) a.new }
+    ensures parted_b { IsParted result.1 (pos 0) b.new }
     ensures ranked_a { AllPairs StandsBefore (take result.0 a.new) }
     ensures ranked_b { AllPairs StandsBefore (take result.1 b.new) }
 {
     if workers < 2 || a.len() < MANY {
-        let front_a = rank_front(a, greatest_a, greatest_b, keys_a);
-        let front_b = rank_front(b, greatest_b, greatest_a, keys_b);
+        let front_a = rank_front(a, 0, keys_a);
+        let front_b = rank_front(b, 0, keys_b);
         return (front_a, front_b);
     }
     join_mut(
         rt,
         &mut || -> usize
-            requires { All IsLow a.now × IsWithin (2 ^ 56) greatest_a
-                × IsWithin (2 ^ 56) greatest_b
-                × All (λ entry. entry.gain ≤ℤ greatest_a) a.now
+            requires { All IsLow a.now
                 × AllPairs (λ x y. x ≢ y) (docs_of a.now)
                 × (length keys_a.now ≡ length a.now) }
             ensures { IsPermutation a.entry.now a.exit.now
-                × IsParted result greatest_b a.exit.now
+                × IsParted result (pos 0) a.exit.now
                 × AllPairs StandsBefore (take result a.exit.now) }
-        { rank_front(a, greatest_a, greatest_b, keys_a) },
+        { rank_front(a, 0, keys_a) },
         &mut || -> usize
-            requires { All IsLow b.now × IsWithin (2 ^ 56) greatest_a
-                × IsWithin (2 ^ 56) greatest_b
-                × All (λ entry. entry.gain ≤ℤ greatest_b) b.now
+            requires { All IsLow b.now
                 × AllPairs (λ x y. x ≢ y) (docs_of b.now)
                 × (length keys_b.now ≡ length b.now) }
             ensures { IsPermutation b.entry.now b.exit.now
-                × IsParted result greatest_a b.exit.now
+                × IsParted result (pos 0) b.exit.now
                 × AllPairs StandsBefore (take result b.exit.now) }
-        { rank_front(b, greatest_b, greatest_a, keys_b) },
+        { rank_front(b, 0, keys_b) },
     )
+}
+
+/// Ranks more of the entries, of which those that gain something stand in front in the order of
+/// their ranks: as far as they gain something with the others of their ranks. These are ranked, gain
+/// something and are no fewer. Gives how many entries are ranked then.
+fn rank_more(entries: &mut [Entry], front: usize, others: &[Entry], keys: &mut [u64]) -> usize
+    requires low { All IsLow entries.old }
+    requires low_others { All IsLow others.now }
+    requires gaining { All (λ entry. pos 0 <ℤ entry.gain) others.now }
+    requires ranked_others { AllPairs StandsBefore others.now }
+    requires parted { IsParted front (pos 0) entries.old }
+    requires ranked { AllPairs StandsBefore (take front entries.old) }
+    requires fewer { front ≤ length others.now }
+    requires room { length keys.old ≡ length entries.old }
+    requires differ { AllPairs (λ x y. x ≢ y) (docs_of entries.old) }
+    ensures same { IsPermutation entries.old entries.new }
+    ensures front { IsFront result others.now entries.new }
+{
+    if front == others.len() {
+        return front;
+    }
+    // The entries behind the front are paired with this one and with others of no greater gain.
+    let other = others[front].gain;
+    let (_, rest) = entries.split_at_mut(front);
+    let (_, keys) = keys.split_at_mut(front);
+    front + rank_front(rest, other, keys)
 }
 
 /// A gain that no entry exceeds: the greatest one, where there is one.
@@ -212,11 +231,9 @@ fn greatest(entries: &[Entry]) -> i64
 
 /// Puts the entries that have a positive sum with the other gain in front, in the order of their
 /// ranks. Gives how many.
-fn rank_front(entries: &mut [Entry], greatest: i64, other: i64, keys: &mut [u64]) -> usize
+fn rank_front(entries: &mut [Entry], other: i64, keys: &mut [u64]) -> usize
     requires low { All IsLow entries.old }
     requires small { IsWithin (2 ^ 56) other }
-    requires small_greatest { IsWithin (2 ^ 56) greatest }
-    requires most { All (λ entry. entry.gain ≤ℤ greatest) entries.old }
     requires room { length keys.old ≡ length entries.old }
     requires differ { AllPairs (λ x y. x ≢ y) (docs_of entries.old) }
     ensures same { IsPermutation entries.old entries.new }
@@ -224,7 +241,9 @@ fn rank_front(entries: &mut [Entry], greatest: i64, other: i64, keys: &mut [u64]
     ensures ranked { AllPairs StandsBefore (take result entries.new) }
 {
     let front = part(entries, other);
-    rank(&mut entries[..front], greatest, other, &mut keys[..front]);
+    let ranked = &mut entries[..front];
+    let greatest = greatest(ranked);
+    rank(ranked, greatest, other, &mut keys[..front]);
     front
 }
 

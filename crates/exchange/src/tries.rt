@@ -130,8 +130,8 @@ fn exchange_first(
         (degree ground.now.forward.now (docs_of come.now)) degrees.old }
     ensures saved { result ≡ cost_of degrees.old -ℤ cost_of degrees.new }
 {
-    // The costs of eight terms take about as long as the gains of a pair.
-    if leave.len() < degrees.terms() as usize / 8 {
+    // The costs of sixteen terms take about as long as the gains of a pair.
+    if leave.len() < degrees.terms() as usize / 16 {
         exchange(ground, degrees, leave, come)
     } else {
         exchange_many(ground, degrees, leave, come, before)

@@ -1,6 +1,7 @@
 //! The forward index of an index, over a start order.
 ghost use Rattle.std.specs.Prelude.{◌≡◌, ℕ, ◌^◌, ◌*◌, ◌<◌, ◌≤◌, length, take, sum, sum_by, slice_index, All, IfOk};
 ghost use Rattle.std.specs.List.{range_with_len};
+ghost use Rattle.std.specs.Thread.{IsSync};
 ghost use Rattle.forward_index.specs.Forward.{IsForward, IsForwardOf};
 ghost use Rattle.forward_index.specs.Rows.{rows_of, begins};
 
@@ -8,6 +9,7 @@ use crate::bands::band_width;
 use crate::count::count_rows;
 use crate::fill::fill_rows;
 use crate::forward::Forward;
+use rayon::join_mut;
 use rgb_base::laws::numbers_undo_the_order;
 use rgb_base::{Index, OutOfMemory, Permutation};
 use std::alloc::{AllocError, Global};
@@ -55,10 +57,9 @@ impl Forward {
         let mut ends = vec![in alloc; 0; start.len() as usize]?;
         let width = band_width(index);
         let mut table = vec![in alloc; 0; workers as usize * index.lists() as usize]?;
-        let total = start_rows(
-            rt, index, min_df, start, &mut ends, width, &mut table, workers,
-        );
-        let mut entries = vec![in alloc; 0; total as usize]?;
+        let mut entries = start_tables(
+            rt, alloc, index, min_df, start, &mut ends, width, &mut table, workers,
+        )?;
         fill_rows(
             rt,
             index,
@@ -75,6 +76,105 @@ impl Forward {
         let documents = documents_of(alloc, start)?;
         Ok(Forward::from_tables(index.lists(), ends, entries, documents))
     }
+}
+
+/// Writes where the row of each place begins, in place of noughts. Gives the room for the entries.
+fn start_tables<R: Threads + Sync>(
+    rt: &R,
+    alloc: Global,
+    index: &Index,
+    min_df: u32,
+    start: &Permutation,
+    counts: &mut [u32],
+    width: u32,
+    table: &mut [u32],
+    workers: u32,
+) -> Result<Vec<u32>, AllocError>
+    requires documents { length start.now ≡ length index.now.documents }
+    requires len { length counts.old ≡ length start.now }
+    requires noughts { All (λ count. count ≡ 0) counts.old }
+    requires some { 0 < width }
+    requires workers { 0 < workers }
+    requires lists { workers * length index.now.lists ≤ length table.old }
+    ensures starts { IfOk result (λ _. counts.new
+        ≡ begins 0 (rows_of min_df index.now.lists start.now)) }
+    ensures room { IfOk result (λ entries. length entries.items
+        ≡ sum_by (λ row. length row) (rows_of min_df index.now.lists start.now)) }
+{
+    let expected = expected_entries(index, min_df);
+    // One thread gets the room in a third of the time in which it counts, so that of two threads
+    // none is spared for it.
+    let (total, room) = if workers < 3 {
+        let total = start_rows(rt, index, min_df, start, counts, width, table, workers);
+        (total, noughts(alloc, expected))
+    } else {
+        start_beside(
+            rt, alloc, index, min_df, start, counts, width, table, workers, expected,
+        )
+    };
+    let mut entries = room?;
+    entries.resize(total as usize, 0)?;
+    Ok(entries)
+}
+
+/// Where rows begin and how many entries there are, as below, beside room for so many.
+fn start_beside<R: Threads + Sync>(
+    rt: &R,
+    alloc: Global,
+    index: &Index,
+    min_df: u32,
+    start: &Permutation,
+    counts: &mut [u32],
+    width: u32,
+    table: &mut [u32],
+    workers: u32,
+    expected: usize,
+) -> (u32, Result<Vec<u32>, AllocError>)
+    requires documents { length start.now ≡ length index.now.documents }
+    requires len { length counts.old ≡ length start.now }
+    requires noughts { All (λ count. count ≡ 0) counts.old }
+    requires some { 0 < width }
+    requires workers { 1 < workers }
+    requires lists { workers * length index.now.lists ≤ length table.old }
+    ensures starts { counts.new ≡ begins 0 (rows_of min_df index.now.lists start.now) }
+    ensures total { result.0
+        ≡ sum_by (λ row. length row) (rows_of min_df index.now.lists start.now) }
+{
+    let others = workers - 1;
+    join_mut(
+        rt,
+        &mut || -> u32
+            requires { IsSync R.row × (length start.now ≡ length index.now.documents)
+                × (length counts.now ≡ length start.now)
+                × All (λ count. count ≡ 0) counts.now
+                × (0 < width) × (0 < others)
+                × (others * length index.now.lists ≤ length table.now) }
+            ensures { (counts.exit.now
+                ≡ begins 0 (rows_of min_df index.entry.now.lists start.entry.now))
+                × (result ≡ sum_by (λ row. length row)
+                (rows_of min_df index.entry.now.lists start.entry.now)) }
+        { start_rows(rt, index, min_df, start, counts, width, table, others) },
+        &mut || -> Result<Vec<u32>, AllocError> { noughts(alloc, expected) },
+    )
+}
+
+/// So many noughts.
+fn noughts(alloc: Global, n: usize) -> Result<Vec<u32>, AllocError>
+    ensures { IfOk result (λ numbers. length numbers.items ≡ n) }
+{
+    vec![in alloc; 0; n]
+}
+
+/// How many entries there are going to be: the postings of the lists that have enough.
+fn expected_entries(index: &Index, min_df: u32) -> usize {
+    let mut entries: usize = 0;
+    for list in 0..index.lists() {
+        let postings = index.postings(list).len();
+        if min_df as usize <= postings {
+            entries = entries.saturating_add(postings);
+        }
+    }
+    entries
 }
 
 /// Writes where the row of each place begins, in place of noughts. Gives the number of entries.

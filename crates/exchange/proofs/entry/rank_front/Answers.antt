@@ -1,4 +1,4 @@
-use Rattle.std.proofs.Common.{◌≡◌, ◌^◌, ℤ, ◌++◌, ◌≤ℤ◌, to_z, of_z, w64, take, drop, All, sym, subst, arith}
+use Rattle.std.proofs.Common.{◌≡◌, ◌^◌, ℤ, ◌++◌, to_z, of_z, w64, drop, subst, arith}
 use Rattle.std.proofs.lemmas.List.Elements.{All-take}
 use Rattle.std.proofs.lemmas.List.Sorted.{All-permutation}
 use Rattle.exchange.specs.Tries.{docs_of, IsLow, IsParted}
@@ -19,13 +19,10 @@ rank-requires-clause-low c =
     let xs = c.part-front.new.entries in
     All-take IsLow c.part-front.result xs (All-permutation IsLow c.args.entries.now xs c.part-front.ensures.same c.requires.low)
 
-pub rank-requires-clause-most : goal.rank-requires-clause-most
-rank-requires-clause-most c =
-    let greatest = c.args.greatest in
-    let back : to_z w64 (of_z w64 greatest) ≡ greatest = read_back (2 ^ 56) greatest (omega arith) c.requires.small_greatest in
+pub greatest-greatest-requires : goal.greatest-greatest-requires
+greatest-greatest-requires c =
     let xs = c.part-front.new.entries in
-    let most = All-permutation (λ e. e.gain ≤ℤ greatest) c.args.entries.now xs c.part-front.ensures.same c.requires.most in
-    subst (λ (z : ℤ). All (λ e. e.gain ≤ℤ z) (take c.part-front.result xs)) (sym back) (All-take (λ e. e.gain ≤ℤ greatest) c.part-front.result xs most)
+    record { low = All-take IsLow c.part-front.result xs (All-permutation IsLow c.args.entries.now xs c.part-front.ensures.same c.requires.low) }
 
 pub returns-clause-same : goal.returns-clause-same
 returns-clause-same c = front_permuted c.part-front.result c.args.entries.now c.part-front.new.entries c.rank.new.entries c.part-front.ensures.same c.rank.ensures.same

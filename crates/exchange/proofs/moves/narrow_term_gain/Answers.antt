@@ -1,4 +1,4 @@
-use Rattle.std.proofs.Common.{◌≡◌, ◌+◌, ◌^◌, ℤ, pos, ◌+ℤ◌, ◌-ℤ◌, to_z, of_z, w64, ap, ◌∙◌, sym, arith}
+use Rattle.std.proofs.Common.{◌+◌, arith}
 use Rattle.std.proofs.lemmas.Int.{ints}
 use Rattle.exchange.proofs.Bounds.{term_gain_by_growths}
 use Rattle.exchange.proofs.moves.narrow_term_gain.Goals as goal

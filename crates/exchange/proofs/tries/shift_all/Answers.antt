@@ -1,12 +1,8 @@
-use Rattle.std.proofs.Common.{◌≡◌, ◌+◌, ◌^◌, ℤ, ◌+ℤ◌, to_z, of_z, get_or, refl, ap, ◌∙◌, arith, []}
-use mir.Syntax.{w128}
-use Rattle.std.proofs.lemmas.Int.{ints}
+use Rattle.std.proofs.Common.{get_or, refl, ◌∙◌, []}
 use Rattle.degrees.specs.Cost.{degree}
-use Rattle.degrees.specs.Counts.{cost_of}
 use Rattle.exchange.specs.Tries.{docs_of}
-use Rattle.exchange.proofs.Bounds.{fits_wide, read_back_wide}
 use Rattle.exchange.specs.Tries.{no_entry}
-use Rattle.exchange.proofs.Many.{front_of, none_across, now_terms, now_ready, now_counted, now_moved, now_costs, saved_more}
+use Rattle.exchange.proofs.Many.{front_of, none_across, now_terms, now_counted, now_moved}
 use Rattle.exchange.proofs.tries.shift_all.Goals as goal
 
 pub loop-entry-init : goal.loop-entry-init
