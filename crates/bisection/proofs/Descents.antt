@@ -8,7 +8,7 @@ use Rattle.forward_index.specs.Forward.{ForwardIndex}
 use Rattle.exchange.specs.Halving.{half_a, half_b, halves_of}
 use Rattle.bisection.specs.declared.cell.Part.{Part}
 use Rattle.bisection.specs.declared.cell.Split.{Split}
-use Rattle.bisection.specs.declared.trace.KeptRound.{KeptRound}
+use Rattle.cell_claims.specs.declared.trace.KeptRound.{KeptRound}
 use Rattle.bisection.specs.Trace.{own_rounds, moved_to}
 use Rattle.bisection.specs.Recursion.{Limits, all_places}
 use Rattle.bisection.specs.Cells.{AreLaws, IsCellIn, IsDone, HasRows, IsPartOf, IsSplit, Output, Descends, DescendsBoth, GoesOn}

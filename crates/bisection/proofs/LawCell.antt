@@ -3,7 +3,7 @@ use Rattle.std.proofs.Common.{ℕ, zero, suc, ◌<◌, List, ◌++◌, length, m
 use Rattle.std.proofs.lemmas.List.{length-map, map-append}
 use Rattle.std.proofs.lemmas.List.Sorted.{All-permutation}
 use Rattle.exchange.specs.Laws.{HalvesKeepDocuments, HalvesOverTheCell, ArePartsOf, halves_through}
-use Rattle.bisection.specs.declared.trace.KeptRound.{KeptRound}
+use Rattle.cell_claims.specs.declared.trace.KeptRound.{KeptRound}
 use Rattle.bisection.specs.Recursion.{StaysWhole}
 use Rattle.bisection.specs.Laws.{BisectionOverTheCell}
 use Rattle.bisection.proofs.LawLists.{All-left, All-right}

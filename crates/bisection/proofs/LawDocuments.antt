@@ -5,7 +5,7 @@ use Rattle.std.proofs.lemmas.List.Concat.{flat_map-append}
 use Rattle.std.proofs.lemmas.List.Elements.{All-nil, All-cons, All-append}
 use Rattle.std.proofs.lemmas.List.Sorted.{IsPermutation-refl, IsPermutation-trans, IsPermutation-append}
 use Rattle.exchange.specs.Laws.{HalvesKeepDocuments, ArePartsOf}
-use Rattle.bisection.specs.declared.trace.KeptRound.{KeptRound}
+use Rattle.cell_claims.specs.declared.trace.KeptRound.{KeptRound}
 use Rattle.bisection.specs.Recursion.{StaysWhole, order_of}
 use Rattle.bisection.specs.Laws.{HasEachOnce, EachDocumentOnce}
 

@@ -4,7 +4,7 @@ use Rattle.forward_index.specs.Forward.{ForwardIndex}
 use Rattle.exchange.specs.declared.round.Kept.{Kept}
 use Rattle.exchange.specs.Halving.{Halves}
 use Rattle.exchange.specs.Laws.{HalvesAreOne}
-use Rattle.bisection.specs.declared.trace.KeptRound.{KeptRound}
+use Rattle.cell_claims.specs.declared.trace.KeptRound.{KeptRound}
 use Rattle.bisection.specs.Trace.{own_rounds, moved_to}
 use Rattle.bisection.specs.Recursion.{Limits, StaysWhole, IsSplit, IsBisected, order_of, all_places}
 use Rattle.bisection.specs.Laws.{BisectionIsOne, NumberingIsOne}

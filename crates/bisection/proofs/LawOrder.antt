@@ -10,7 +10,7 @@ use Rattle.std.proofs.lemmas.List.Sorted.{length_permutation}
 use Rattle.forward_index.specs.Forward.{ForwardIndex}
 use Rattle.exchange.specs.declared.round.Kept.{Kept}
 use Rattle.exchange.specs.Laws.{HalvesKeepDocuments, KeptRoundsAreAChain, IsChain, ArePartsOf}
-use Rattle.bisection.specs.declared.trace.KeptRound.{KeptRound}
+use Rattle.cell_claims.specs.declared.trace.KeptRound.{KeptRound}
 use Rattle.bisection.specs.Trace.{own_round, own_rounds, round_at, moved_to, StandsBefore}
 use Rattle.bisection.specs.Recursion.{Limits, StaysWhole, IsBisected}
 use Rattle.bisection.specs.Laws.{RoundsStandInOrder}

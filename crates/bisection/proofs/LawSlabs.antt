@@ -4,7 +4,7 @@ use Rattle.std.specs.List.Sorted.{IsStrictlyIncreasing}
 use Rattle.std.proofs.lemmas.List.Sorted.{IsPermutation-refl, IsPermutation-trans, IsPermutation-append, IsPermutation-map, length_permutation}
 use Rattle.forward_index.specs.Forward.{ForwardIndex}
 use Rattle.exchange.specs.Laws.{HalvesKeepDocuments, KeptRoundsAreAChain, ArePartsOf}
-use Rattle.bisection.specs.declared.trace.KeptRound.{KeptRound}
+use Rattle.cell_claims.specs.declared.trace.KeptRound.{KeptRound}
 use Rattle.bisection.specs.Trace.{own_rounds, round_at, moved_to, StandsBefore, IsTrace}
 use Rattle.bisection.specs.Recursion.{Limits, StaysWhole, IsSplit, IsBisected, order_of}
 use Rattle.bisection.specs.Laws.{AreBisected, HasEachOnce, IsOneRecursion, LevelsAddUp, SlabsAreOneRecursion}

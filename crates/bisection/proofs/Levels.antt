@@ -10,7 +10,7 @@ use Rattle.forward_index.specs.Cell.{IsCellOf}
 use Rattle.forward_index.specs.Laws.{CellOfACell}
 use Rattle.exchange.specs.declared.round.Kept.{Kept}
 use Rattle.exchange.specs.Halving.{half_a, half_b}
-use Rattle.bisection.specs.declared.trace.KeptRound.{KeptRound}
+use Rattle.cell_claims.specs.declared.trace.KeptRound.{KeptRound}
 use Rattle.bisection.specs.declared.cell.Part.{Part}
 use Rattle.bisection.specs.declared.cell.Split.{Split}
 use Rattle.bisection.specs.Trace.{own_round, own_rounds, round_at, moved_to}

@@ -15,3 +15,8 @@ pub mod Slabs
 pub mod Ordered
 pub mod Standing
 pub mod Progressing
+pub mod Works
+pub mod Shares
+pub mod Joined
+pub mod Claimed
+pub mod Keeping

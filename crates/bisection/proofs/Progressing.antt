@@ -7,7 +7,7 @@ use Rattle.std.proofs.lemmas.List.Sorted.{length_permutation}
 use Rattle.forward_index.specs.Forward.{ForwardIndex, IsForward}
 use Rattle.bisection.specs.declared.cell.Part.{Part}
 use Rattle.bisection.specs.declared.options.Options.{Options}
-use Rattle.bisection.specs.declared.trace.KeptRound.{KeptRound}
+use Rattle.cell_claims.specs.declared.trace.KeptRound.{KeptRound}
 use Rattle.bisection.specs.Trace.{IsTrace}
 use Rattle.bisection.specs.Recursion.{IsBisected, StaysWhole, IsNumbered, order_of, all_places}
 use Rattle.bisection.specs.Progress.{AreOptions, Progress, IsProgress, limits_of, slabs_of, depth_after}

@@ -1,19 +1,17 @@
 -- What the levels of a slab make of the cells of the slab before.
-use Rattle.std.proofs.Common.{◌≡◌, ℕ, zero, suc, ◌+◌, ◌-◌, ◌<◌, ◌≤◌, List, [], ◌∷◌, ◌++◌, length, get_or, take, drop, map, Option, None, refl, sym, ap, subst, ◌∙◌, inl, arith, All}
+use Rattle.std.proofs.Common.{◌≡◌, ℕ, zero, suc, ◌+◌, ◌<◌, ◌≤◌, List, [], ◌∷◌, ◌++◌, length, get_or, take, drop, map, Option, None, refl, sym, ap, subst, ◌∙◌, inl, arith, All}
 use Rattle.std.specs.List.{AllZip, sum_by}
-use Rattle.std.proofs.lemmas.List.{append-nil, length-append, length-drop, length-take-le, take-append-drop}
+use Rattle.std.proofs.lemmas.List.{append-nil, length-append, take-append-drop}
 use Rattle.std.proofs.lemmas.List.Elements.{All-take, All-drop}
 use Rattle.std.proofs.lemmas.List.FromFn.{length-range_with_len}
-use Rattle.std.proofs.lemmas.List.Sums.{sum_by-cons, sum_by-take-le, sum_by-take-drop}
+use Rattle.std.proofs.lemmas.List.Sums.{sum_by-cons}
 use Rattle.forward_index.specs.Forward.{ForwardIndex, IsForward}
 use Rattle.bisection.specs.declared.cell.Part.{Part}
 use Rattle.bisection.specs.declared.cell.Split.{Split}
-use Rattle.bisection.specs.declared.options.Options.{Options}
 use Rattle.bisection.specs.Recursion.{Limits, order_of, all_places}
-use Rattle.bisection.specs.Progress.{limits_of}
-use Rattle.bisection.specs.Cells.{IsCellIn, IsDone, IsPartOf, ArePartsOf, IsReady, IsSplit, Output, IsMade, AreMade, CanDescendAll, Descends, DescendsAll, GoesOn}
+use Rattle.bisection.specs.Cells.{IsCellIn, IsDone, IsPartOf, ArePartsOf, IsReady, IsSplit, Output, IsMade, AreMade, Descends, DescendsAll, GoesOn}
 use Rattle.bisection.proofs.Places.{look_all, front_docs, back_docs, order_append}
-use Rattle.bisection.proofs.Levels.{ready_from_part, stays_done, made_whole, made_one, made_behind, made_join}
+use Rattle.bisection.proofs.Levels.{ready_from_part, stays_done, made_whole, made_one, made_join}
 
 -- ---- parts and their cells
 
@@ -130,58 +128,3 @@ pub one_is : (parts : List Part) (part : Part) → length parts ≡ 1 → part �
 one_is [] part one is = absurd (omega (arith, one))
 one_is (first ∷ []) part one is = ap (λ (p : Part). p ∷ []) (sym is)
 one_is (first ∷ (second ∷ parts)) part one is = absurd (omega (arith, one))
-
--- ---- side by side
-
-all_behind : (limits : Limits) (depth level last start : ℕ) (parts : List Part) (docs docs_new : List ℕ) (none one old new : Output) → none.parts ≡ [] → none.trace ≡ [] → new.parts ≡ old.parts ++ one.parts → new.trace ≡ old.trace ++ one.trace
-    → DescendsAll limits depth level last start parts docs docs_new none one → DescendsAll limits depth level last start parts docs docs_new old new
-all_behind limits depth level last start parts docs docs_new none one old new no_parts no_trace parts_are trace_is descends = record {
-  over = λ whole cells document sound cells_in are docs_are.
-      made_behind whole limits depth level last start document cells docs_new none one old new (descends.over whole cells document sound cells_in are docs_are) no_parts no_trace parts_are trace_is;
-}
-
-pub all_beside : (limits : Limits) (depth level last start m cut middle : ℕ) (parts parts_front parts_back : List Part) (docs front back docs_front docs_back : List ℕ) (none_a one none_b two old mid new : Output) → parts_front ≡ take m parts → parts_back ≡ drop m parts
-    → cut ≡ sum_by (λ part. part.len) parts_front → middle ≡ start + cut → front ≡ take cut docs → back ≡ drop cut docs → none_a.parts ≡ [] → none_a.trace ≡ [] → none_b.parts ≡ [] → none_b.trace ≡ []
-    → DescendsAll limits depth level last start parts_front front docs_front none_a one → DescendsAll limits depth level last middle parts_back back docs_back none_b two
-    → mid.parts ≡ old.parts ++ one.parts → mid.trace ≡ old.trace ++ one.trace → new.parts ≡ mid.parts ++ two.parts → new.trace ≡ mid.trace ++ two.trace → DescendsAll limits depth level last start parts docs (docs_front ++ docs_back) old new
-all_beside limits depth level last start m cut middle parts parts_front parts_back docs front back docs_front docs_back none_a one none_b two old mid new front_parts back_parts cut_is middle_is front_is back_is no_parts_a no_trace_a no_parts_b no_trace_b first second mid_parts mid_trace new_parts new_trace =
-    all_both limits depth level last start m cut middle parts parts_front parts_back docs front back docs_front docs_back old mid new front_parts back_parts cut_is middle_is front_is back_is
-    (all_behind limits depth level last start parts_front front docs_front none_a one old mid no_parts_a no_trace_a mid_parts mid_trace first)
-    (all_behind limits depth level last middle parts_back back docs_back none_b two mid new no_parts_b no_trace_b new_parts new_trace second)
-
--- ---- what a call over some of the parts asks
-
-module _ (options : Options) (top last level start m cut : ℕ) (parts : List Part) (docs : List ℕ) (can : CanDescendAll options top last level start parts docs) where
-  pub can_front : (parts_front : List Part) (front : List ℕ) → parts_front ≡ take m parts → cut ≡ sum_by (λ part. part.len) parts_front → front ≡ take cut docs → CanDescendAll options top last level start parts_front front
-  can_front parts_front front parts_are cut_is front_is =
-      let all = can.len in
-      let cut_at : cut ≡ sum_by (λ part. part.len) (take m parts) = cut_is ∙ ap (λ (ps : List Part). sum_by (λ part. part.len) ps) parts_are in
-      let low : cut ≤ length docs = omega (arith, cut_at, sum_by-take-le (λ (p : Part). p.len) parts m, all) in
-      let size : length front ≡ cut = ap length front_is ∙ length-take-le cut docs low in
-      record {
-        ranges = can.ranges;
-        order = can.order;
-        within = can.within;
-        len = size ∙ cut_is;
-        logs = let logs = can.logs in omega (arith, logs, size, low);
-        end = let end = can.end in omega (arith, end, size, low);
-        ready = subst (λ (ps : List Part). All (IsReady (limits_of options)) ps) (sym parts_are) (All-take (IsReady (limits_of options)) m parts can.ready);
-      }
-
-  pub can_back : (middle : ℕ) (parts_front parts_back : List Part) (back : List ℕ) → parts_front ≡ take m parts → parts_back ≡ drop m parts → cut ≡ sum_by (λ part. part.len) parts_front → middle ≡ start + cut → back ≡ drop cut docs
-      → CanDescendAll options top last level middle parts_back back
-  can_back middle parts_front parts_back back front_are back_are cut_is middle_is back_is =
-      let all = can.len in
-      let cut_at : cut ≡ sum_by (λ part. part.len) (take m parts) = cut_is ∙ ap (λ (ps : List Part). sum_by (λ part. part.len) ps) front_are in
-      let rest : sum_by (λ part. part.len) parts_back ≡ sum_by (λ part. part.len) (drop m parts) = ap (λ (ps : List Part). sum_by (λ part. part.len) ps) back_are in
-      let both = sum_by-take-drop (λ (p : Part). p.len) parts m in
-      let size : length back ≡ length docs - cut = ap length back_is ∙ length-drop cut docs in
-      record {
-        ranges = can.ranges;
-        order = can.order;
-        within = can.within;
-        len = omega (arith, size, all, cut_at, rest, both);
-        logs = let logs = can.logs in omega (arith, logs, size);
-        end = let end = can.end in omega (arith, end, size, all, cut_at, both, middle_is);
-        ready = subst (λ (ps : List Part). All (IsReady (limits_of options)) ps) (sym back_are) (All-drop (IsReady (limits_of options)) m parts can.ready);
-      }

@@ -13,7 +13,7 @@ use Rattle.rgb_base.specs.Order.{IsOrder}
 use Rattle.forward_index.specs.Forward.{ForwardIndex, IsForward}
 use Rattle.bisection.specs.declared.cell.Part.{Part}
 use Rattle.bisection.specs.declared.options.Options.{Options}
-use Rattle.bisection.specs.declared.trace.KeptRound.{KeptRound}
+use Rattle.cell_claims.specs.declared.trace.KeptRound.{KeptRound}
 use Rattle.bisection.specs.Trace.{StandsBefore}
 use Rattle.bisection.specs.Recursion.{Limits, IsBisected, order_of, all_places}
 use Rattle.bisection.specs.Laws.{HasEachOnce}

@@ -9,7 +9,7 @@ use Rattle.forward_index.specs.Laws.{CellOfACell}
 use Rattle.exchange.specs.Halving.{half_a, half_b, halves_of, AreHalves}
 use Rattle.exchange.specs.Laws.{HalvesKeepDocuments}
 use Rattle.bisection.specs.declared.options.Options.{Options}
-use Rattle.bisection.specs.declared.trace.KeptRound.{KeptRound}
+use Rattle.cell_claims.specs.declared.trace.KeptRound.{KeptRound}
 use Rattle.bisection.specs.declared.cell.Part.{Part}
 use Rattle.bisection.specs.declared.cell.Made.{Made}
 use Rattle.bisection.specs.declared.cell.Split.{Split}

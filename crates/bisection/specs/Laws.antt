@@ -3,7 +3,7 @@ use Rattle.std.specs.Prelude.{◌≡◌, ℕ, ◌+◌, ◌<◌, List, [], ◌∷
 use Rattle.std.specs.List.Sorted.{IsStrictlyIncreasing}
 use Rattle.forward_index.specs.Forward.{ForwardIndex, IsForward}
 use Rattle.forward_index.specs.Cell.{IsCellOf}
-use Rattle.bisection.specs.declared.trace.KeptRound.{KeptRound}
+use Rattle.cell_claims.specs.declared.trace.KeptRound.{KeptRound}
 use Rattle.bisection.specs.Trace.{moved_to, StandsBefore, IsTrace}
 use Rattle.bisection.specs.Recursion.{Limits, IsBisected, IsNumbered, order_of}
 

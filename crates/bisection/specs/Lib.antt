@@ -5,3 +5,4 @@ pub mod Progress
 pub mod There
 pub mod Cells
 pub mod Kept
+pub mod Desks

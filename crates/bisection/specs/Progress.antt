@@ -3,7 +3,7 @@ use Rattle.std.specs.Prelude.{◌≡◌, ℕ, ◌+◌, ◌-◌, ◌*◌, ◌/◌
 use Rattle.rgb_base.specs.Parts.{IndexParts}
 use Rattle.forward_index.specs.Forward.{ForwardIndex, IsForward, IsForwardOf}
 use Rattle.bisection.specs.declared.options.Options.{Options}
-use Rattle.bisection.specs.declared.trace.KeptRound.{KeptRound}
+use Rattle.cell_claims.specs.declared.trace.KeptRound.{KeptRound}
 use Rattle.bisection.specs.Recursion.{Limits, IsNumbered}
 
 -- the ranges of the options

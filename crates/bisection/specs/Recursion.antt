@@ -7,7 +7,7 @@ use Rattle.std.specs.List.{range_with_len}
 use Rattle.forward_index.specs.Forward.{ForwardIndex}
 use Rattle.exchange.specs.declared.round.Kept.{Kept}
 use Rattle.exchange.specs.Halving.{Halves, AreHalves}
-use Rattle.bisection.specs.declared.trace.KeptRound.{KeptRound}
+use Rattle.cell_claims.specs.declared.trace.KeptRound.{KeptRound}
 use Rattle.bisection.specs.Trace.{own_rounds, moved_to}
 
 -- how many rounds a halving makes at most, and how many documents a cell has that isn't halved

@@ -4,7 +4,7 @@ use Rattle.std.specs.List.Sorted.{IsStrictlyIncreasing}
 use Rattle.rgb_base.specs.Parts.{IndexParts, IsIndex}
 use Rattle.rgb_base.specs.Order.{IsOrder}
 use Rattle.forward_index.specs.Forward.{ForwardIndex}
-use Rattle.bisection.specs.declared.trace.KeptRound.{KeptRound}
+use Rattle.cell_claims.specs.declared.trace.KeptRound.{KeptRound}
 use Rattle.bisection.specs.Recursion.{Limits, IsBisected, IsNumbered}
 use Rattle.bisection.specs.Progress.{IsNumberingOf}
 

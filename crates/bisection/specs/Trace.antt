@@ -1,7 +1,7 @@
 -- The records of kept rounds that a recursion leaves.
 use Rattle.std.specs.Prelude.{◌≡◌, ◌⊎◌, ℕ, ◌+◌, ◌<◌, ◌<ℤ◌, List, map, All, AllPairs}
 use Rattle.exchange.specs.declared.round.Kept.{Kept}
-use Rattle.bisection.specs.declared.trace.KeptRound.{KeptRound}
+use Rattle.cell_claims.specs.declared.trace.KeptRound.{KeptRound}
 
 -- the kept rounds of a cell of so many documents, which has the level 0 and begins at 0
 abbrev pub own_round : ℕ → Kept → KeptRound

@@ -6,7 +6,7 @@ use crate::cell::{Part, Slab};
 use crate::laws::laws_of_recursion;
 use crate::next::{level_after, next_slab, numbering_of, slabs};
 use crate::options::Options;
-use crate::trace::{KeptRound, TraceList};
+use cell_claims::{KeptRound, TraceList};
 use fixed_log::LogTable;
 use forward_index::Forward;
 use rgb_base::{OutOfMemory, Pace, Permutation};

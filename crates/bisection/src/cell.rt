@@ -7,7 +7,7 @@ ghost use Rattle.bisection.specs.Progress.{limits_of};
 ghost use Rattle.bisection.specs.Cells.{AreLaws, IsCellIn, IsPartOf, IsSplit};
 
 use crate::options::Options;
-use crate::trace::KeptRound;
+use cell_claims::KeptRound;
 use degrees::Degrees;
 use exchange::{Ground, Kept, KeptList, Scratch, halve};
 use fixed_log::LogTable;

@@ -4,14 +4,15 @@
 mod bisector;
 mod cell;
 mod descend;
+mod desk;
+mod desks;
 pub mod laws;
 mod next;
 mod options;
 mod recursion;
 mod slab;
-mod trace;
 
 pub use bisector::Bisector;
+pub use cell_claims::{CellDone, CellWork, ClaimSeat, Claims, KeptRound, TraceList};
 pub use options::Options;
 pub use recursion::reorder;
-pub use trace::{KeptRound, TraceList};

@@ -7,7 +7,7 @@ ghost use Rattle.bisection.specs.Progress.{AreOptions, limits_of};
 use crate::bisector::Bisector;
 use crate::laws::laws_of_recursion;
 use crate::options::Options;
-use crate::trace::TraceList;
+use cell_claims::TraceList;
 use forward_index::Forward;
 use rgb_base::{OutOfMemory, Pace, Permutation};
 use std::alloc::Global;

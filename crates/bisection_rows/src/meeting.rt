@@ -23,7 +23,7 @@ struct Meeting {
 }
 
 /// Whether the flag is set before so many looks are over.
-fn is_set(flag: &AtomicBool) -> bool {
+pub(crate) fn is_set(flag: &AtomicBool) -> bool {
     for _ in 0..LOOKS {
         if flag.load(Ordering::SeqCst) {
             return true;

@@ -22,7 +22,7 @@ use Rattle.rgb_app.specs.declared.answers.Answer.{Answer}
 use Rattle.command_words.specs.Line.{Word, ComesTo as OptionComesTo}
 use Rattle.command_words.specs.Command.{Command, copy, report, reorder, query, make, workers_option, IsCommand}
 use Rattle.command_words.specs.declared.reordering.Reordering.{Reordering}
-use Rattle.bisection.specs.declared.trace.KeptRound.{KeptRound}
+use Rattle.cell_claims.specs.declared.trace.KeptRound.{KeptRound}
 use Rattle.rgb_app.specs.Text.{index_line, report_text, reorder_text, query_text}
 use Rattle.rgb_app.specs.Reordering.{IsReordered}
 use Rattle.generated_index.specs.Generated.{generated}

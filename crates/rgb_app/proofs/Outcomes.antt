@@ -12,7 +12,7 @@ use Rattle.rgb_host.specs.Files.{Files}
 use Rattle.command_words.specs.Line.{Word}
 use Rattle.command_words.specs.Command.{Command, copy, report, reorder, query, make}
 use Rattle.command_words.specs.declared.reordering.Reordering.{Reordering}
-use Rattle.bisection.specs.declared.trace.KeptRound.{KeptRound}
+use Rattle.cell_claims.specs.declared.trace.KeptRound.{KeptRound}
 use Rattle.rgb_app.specs.Text.{index_line, report_text, reorder_text, query_text, make_text}
 use Rattle.rgb_app.specs.Reordering.{IsReordered}
 use Rattle.rgb_app.specs.Summary.{IsSummary}

@@ -4,7 +4,7 @@ use Rattle.std.proofs.Math.Seq.{take-append-add}
 use Rattle.std.proofs.lemmas.List.{append-nil, length-append, take-append-le, take-append-drop, take_more}
 use Rattle.std.proofs.lemmas.Grind.{flat_map-append}
 use Rattle.rgb_host.specs.Seen.{Seen, with_print, WriteFailed, PrintedThenFailed}
-use Rattle.bisection.specs.declared.trace.KeptRound.{KeptRound}
+use Rattle.cell_claims.specs.declared.trace.KeptRound.{KeptRound}
 use Rattle.rgb_app.specs.Text.{line_of, round_words, round_lines}
 use Rattle.rgb_app.specs.Printing.{Adds}
 

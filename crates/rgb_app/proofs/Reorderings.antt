@@ -12,7 +12,7 @@ use Rattle.rgb_base.specs.Parts.{IndexParts, IsIndex}
 use Rattle.rgb_base.specs.Order.{IsOrder}
 use Rattle.forward_index.specs.Forward.{ForwardIndex, IsForward, IsForwardOf}
 use Rattle.forward_index.specs.Laws.{ForwardIsOne, StartByNameIsOne, StartIsThere}
-use Rattle.bisection.specs.declared.trace.KeptRound.{KeptRound}
+use Rattle.cell_claims.specs.declared.trace.KeptRound.{KeptRound}
 use Rattle.bisection.specs.Recursion.{IsNumbered, all_places, order_of}
 use Rattle.bisection.specs.Laws.{NumberingIsOne, EachDocumentOnce}
 use Rattle.bisection.specs.There.{NumberingOfIsThere}

@@ -1,7 +1,7 @@
 -- The text of a reordering, of its parts.
 use Rattle.std.proofs.Common.{◌≡◌, ℕ, List, ◌++◌, length, codes, decimal, Result, Ok, Err, IfOk, string_bytes, ap, ◌∙◌}
 use Rattle.rgb_base.specs.Parts.{IndexParts}
-use Rattle.bisection.specs.declared.trace.KeptRound.{KeptRound}
+use Rattle.cell_claims.specs.declared.trace.KeptRound.{KeptRound}
 use Rattle.gap_report.specs.declared.costs.Costs.{Costs}
 use Rattle.gap_report.specs.Costs.{costs_of}
 use Rattle.rgb_app.specs.Prepared.{text_of}

@@ -11,7 +11,7 @@ use Rattle.command_words.specs.Line.{Word}
 use Rattle.command_words.specs.Command.{Command, copy, report, reorder, query, make}
 use Rattle.query_file.specs.Queries.{Numbered, AreQueries, IsTooLong, IsFirstFault}
 use Rattle.query_file.specs.declared.error.LineCause.{LineCause}
-use Rattle.bisection.specs.declared.trace.KeptRound.{KeptRound}
+use Rattle.cell_claims.specs.declared.trace.KeptRound.{KeptRound}
 use Rattle.rgb_app.specs.Text.{index_line, report_text, reorder_text, query_text}
 use Rattle.generated_index.specs.Generated.{generated}
 use Rattle.rgb_app.specs.Reordering.{IsReordered}

@@ -5,7 +5,7 @@ use Rattle.rgb_base.specs.Parts.{IndexParts}
 use Rattle.forward_index.specs.Forward.{ForwardIndex, IsForward, IsForwardOf}
 use Rattle.forward_index.specs.Start.{IsStartByName}
 use Rattle.bisection.specs.declared.options.Options.{Options}
-use Rattle.bisection.specs.declared.trace.KeptRound.{KeptRound}
+use Rattle.cell_claims.specs.declared.trace.KeptRound.{KeptRound}
 use Rattle.bisection.specs.Recursion.{Limits}
 use Rattle.bisection.specs.Progress.{IsNumberingOf}
 use Rattle.postings_rewrite.specs.Renumbering.{IsRenumbered}

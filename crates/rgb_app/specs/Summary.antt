@@ -1,7 +1,7 @@
 -- What a reordering of an index in memory comes to.
 use Rattle.std.specs.Prelude.{◌≡◌, ℕ, List}
 use Rattle.rgb_base.specs.Parts.{IndexParts}
-use Rattle.bisection.specs.declared.trace.KeptRound.{KeptRound}
+use Rattle.cell_claims.specs.declared.trace.KeptRound.{KeptRound}
 use Rattle.command_words.specs.declared.reordering.Reordering.{Reordering}
 use Rattle.rgb_app.specs.Text.{make_text}
 use Rattle.rgb_app.specs.Reordering.{IsReordered}

@@ -1,5 +1,5 @@
 use Rattle.std.proofs.Common.{◌≡◌, ℕ, List, length, sym, subst, ap, ◌∙◌}
-use Rattle.bisection.specs.declared.trace.KeptRound.{KeptRound}
+use Rattle.cell_claims.specs.declared.trace.KeptRound.{KeptRound}
 use Rattle.bisection.specs.Trace.{IsTrace}
 use Rattle.bisection.specs.Recursion.{IsNumbered}
 use Rattle.bisection.specs.Progress.{Progress, limits_of, slabs_of}

@@ -28,7 +28,7 @@ pub struct TraceList {
 
 impl Model for TraceList {
     ghost use Rattle.std.specs.Prelude.{List};
-    ghost use Rattle.bisection.specs.declared.trace.KeptRound.{KeptRound};
+    ghost use Rattle.cell_claims.specs.declared.trace.KeptRound.{KeptRound};
 
     ghost Value = { List KeptRound };
 
