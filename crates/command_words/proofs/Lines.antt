@@ -3,8 +3,8 @@ use Rattle.std.proofs.Common.{◌≡◌, ◌⊎◌, ◌↔◌, ℕ, Bool, true, 
 use Rattle.std.proofs.lemmas.Option.{same_Some, none-some}
 use Rattle.command_words.specs.Line.{Word, Part, OptionRow, Finds, Means, OfParts, operands_of, values_of, ComesTo, ComeTo, Follow}
 use Rattle.command_words.specs.declared.reordering.Reordering.{Reordering}
-use Rattle.command_words.specs.Command.{Command, copy, report, reorder, query, make, copy_row, report_row, reorder_row, query_row, make_row, number_option, document_counts, workers_option, depth_option, rounds_option, leaf_option, step_option, min_df_option, start_option, reordering_options, numbers_of, IsCommand, SpellsOnly, Answers}
-use Rattle.command_words.proofs.Parting.{same_behind, two_operands, one_operand_name}
+use Rattle.command_words.specs.Command.{Command, copy, report, reorder, query, make, live, copy_row, report_row, reorder_row, query_row, make_row, live_row, number_option, readers_option, document_counts, workers_option, depth_option, rounds_option, leaf_option, step_option, min_df_option, start_option, reordering_options, numbers_of, IsCommand, SpellsOnly, Answers}
+use Rattle.command_words.proofs.Parting.{same_behind, two_operands, three_operands, one_operand_name}
 
 -- the operand at a place is this
 abbrev Operand : List Word → ℕ → Word → Type 0
@@ -20,6 +20,16 @@ copy_is_not_make words behind e =
     let first : 99 ≡ 109 = ap (λ (ws : List Word). get_or (get_or ws 0 []) 0 0) e in
     omega (arith, first)
 
+copy_is_not_live : (words behind : List Word) → copy_row.name ∷ words ≡ live_row.name ∷ behind → ⊥
+copy_is_not_live words behind e =
+    let first : 99 ≡ 108 = ap (λ (ws : List Word). get_or (get_or ws 0 []) 0 0) e in
+    omega (arith, first)
+
+make_is_not_live : (words behind : List Word) → make_row.name ∷ words ≡ live_row.name ∷ behind → ⊥
+make_is_not_live words behind e =
+    let first : 109 ≡ 108 = ap (λ (ws : List Word). get_or (get_or ws 0 []) 0 0) e in
+    omega (arith, first)
+
 only_copy : (words : List Word) (input output : Word) → Operand words 0 input → Operand words 1 output
     → (other : Command) → IsCommand (copy_row.name ∷ words) other → other ≡ copy input output
 only_copy words input output first second (copy i o) line =
@@ -31,6 +41,7 @@ only_copy words input output first second (report i w) line = let e : copy_row.n
 only_copy words input output first second (reorder i o k) line = let e : copy_row.name ∷ words ≡ reorder_row.name ∷ line.behind = line.named in absurd (cc)
 only_copy words input output first second (query i q) line = let e : copy_row.name ∷ words ≡ query_row.name ∷ line.behind = line.named in absurd (cc)
 only_copy words input output first second (make d o n k) line = absurd (copy_is_not_make words line.line.behind line.line.named)
+only_copy words input output first second (live i o q k r) line = absurd (copy_is_not_live words line.behind line.named)
 
 pub copy_line : (words : List Word) (input output : Word) → Follow 2 [] words → Operand words 0 input → Operand words 1 output → SpellsOnly (copy_row.name ∷ words) (copy input output)
 copy_line words input output follow first second = record {
@@ -55,6 +66,7 @@ only_query words input queries first second (copy i o) line = let e : query_row.
 only_query words input queries first second (report i w) line = let e : query_row.name ∷ words ≡ report_row.name ∷ line.behind = line.named in absurd (cc)
 only_query words input queries first second (reorder i o k) line = let e : query_row.name ∷ words ≡ reorder_row.name ∷ line.behind = line.named in absurd (cc)
 only_query words input queries first second (make d o n k) line = let e : query_row.name ∷ words ≡ make_row.name ∷ line.line.behind = line.line.named in absurd (cc)
+only_query words input queries first second (live i o q k r) line = let e : query_row.name ∷ words ≡ live_row.name ∷ line.behind = line.named in absurd (cc)
 
 pub query_line : (words : List Word) (input queries : Word) → Follow 2 [] words → Operand words 0 input → Operand words 1 queries → SpellsOnly (query_row.name ∷ words) (query input queries)
 query_line words input queries follow first second = record {
@@ -79,6 +91,7 @@ only_report words input workers first value (copy i o) line = let e : report_row
 only_report words input workers first value (reorder i o k) line = let e : report_row.name ∷ words ≡ reorder_row.name ∷ line.behind = line.named in absurd (cc)
 only_report words input workers first value (query i q) line = let e : report_row.name ∷ words ≡ query_row.name ∷ line.behind = line.named in absurd (cc)
 only_report words input workers first value (make d o n k) line = let e : report_row.name ∷ words ≡ make_row.name ∷ line.line.behind = line.line.named in absurd (cc)
+only_report words input workers first value (live i o q k r) line = let e : report_row.name ∷ words ≡ live_row.name ∷ line.behind = line.named in absurd (cc)
 
 pub report_line : (words : List Word) (input : Word) (workers : ℕ) → Follow 1 (workers_option ∷ []) words → Operand words 0 input → Workers words (Some workers)
     → SpellsOnly (report_row.name ∷ words) (report input workers)
@@ -101,6 +114,7 @@ no_workers words none (copy i o) line = let e : report_row.name ∷ words ≡ co
 no_workers words none (reorder i o k) line = let e : report_row.name ∷ words ≡ reorder_row.name ∷ line.behind = line.named in absurd (cc)
 no_workers words none (query i q) line = let e : report_row.name ∷ words ≡ query_row.name ∷ line.behind = line.named in absurd (cc)
 no_workers words none (make d o n k) line = let e : report_row.name ∷ words ≡ make_row.name ∷ line.line.behind = line.line.named in absurd (cc)
+no_workers words none (live i o q k r) line = let e : report_row.name ∷ words ≡ live_row.name ∷ line.behind = line.named in absurd (cc)
 
 -- ---- the options of a reordering
 
@@ -211,6 +225,7 @@ only_reorder words input output options first second all (copy i o) line = let e
 only_reorder words input output options first second all (report i w) line = let e : reorder_row.name ∷ words ≡ report_row.name ∷ line.behind = line.named in absurd (cc)
 only_reorder words input output options first second all (query i q) line = let e : reorder_row.name ∷ words ≡ query_row.name ∷ line.behind = line.named in absurd (cc)
 only_reorder words input output options first second all (make d o n k) line = let e : reorder_row.name ∷ words ≡ make_row.name ∷ line.line.behind = line.line.named in absurd (cc)
+only_reorder words input output options first second all (live i o q k r) line = let e : reorder_row.name ∷ words ≡ live_row.name ∷ line.behind = line.named in absurd (cc)
 
 pub reorder_line : (words : List Word) (input output : Word) (options : Reordering) → Follow 2 reordering_options words → Operand words 0 input → Operand words 1 output → Reorders words (Some options)
     → SpellsOnly (reorder_row.name ∷ words) (reorder input output options)
@@ -233,6 +248,7 @@ no_reordering words none (copy i o) line = let e : reorder_row.name ∷ words �
 no_reordering words none (report i w) line = let e : reorder_row.name ∷ words ≡ report_row.name ∷ line.behind = line.named in absurd (cc)
 no_reordering words none (query i q) line = let e : reorder_row.name ∷ words ≡ query_row.name ∷ line.behind = line.named in absurd (cc)
 no_reordering words none (make d o n k) line = let e : reorder_row.name ∷ words ≡ make_row.name ∷ line.line.behind = line.line.named in absurd (cc)
+no_reordering words none (live i o q k r) line = let e : reorder_row.name ∷ words ≡ live_row.name ∷ line.behind = line.named in absurd (cc)
 
 -- ---- the words behind `make`
 
@@ -255,6 +271,7 @@ only_make words count documents output number options first found second drawn a
 only_make words count documents output number options first found second drawn all (report i w) line = let e : make_row.name ∷ words ≡ report_row.name ∷ line.behind = line.named in absurd (cc)
 only_make words count documents output number options first found second drawn all (reorder i o k) line = let e : make_row.name ∷ words ≡ reorder_row.name ∷ line.behind = line.named in absurd (cc)
 only_make words count documents output number options first found second drawn all (query i q) line = let e : make_row.name ∷ words ≡ query_row.name ∷ line.behind = line.named in absurd (cc)
+only_make words count documents output number options first found second drawn all (live i o q k r) line = absurd (make_is_not_live words line.behind line.named)
 
 pub make_line : (words : List Word) (count : Word) (documents : ℕ) (output : Word) (number : ℕ) (options : Reordering) → Follow 2 (number_option ∷ reordering_options) words → Operand words 0 count
     → Finds (Some documents) (Means document_counts count) → Operand words 1 output → Numbers words (Some number) → Reorders words (Some options)
@@ -284,6 +301,7 @@ no_documents words count first none (copy i o) line = absurd (copy_is_not_make l
 no_documents words count first none (report i w) line = let e : make_row.name ∷ words ≡ report_row.name ∷ line.behind = line.named in absurd (cc)
 no_documents words count first none (reorder i o k) line = let e : make_row.name ∷ words ≡ reorder_row.name ∷ line.behind = line.named in absurd (cc)
 no_documents words count first none (query i q) line = let e : make_row.name ∷ words ≡ query_row.name ∷ line.behind = line.named in absurd (cc)
+no_documents words count first none (live i o q k r) line = absurd (make_is_not_live words line.behind line.named)
 
 pub no_number : (words : List Word) → Numbers words None → Answers (make_row.name ∷ words) None
 no_number words none (make d o n k) spelt =
@@ -294,6 +312,7 @@ no_number words none (copy i o) line = absurd (copy_is_not_make line.behind word
 no_number words none (report i w) line = let e : make_row.name ∷ words ≡ report_row.name ∷ line.behind = line.named in absurd (cc)
 no_number words none (reorder i o k) line = let e : make_row.name ∷ words ≡ reorder_row.name ∷ line.behind = line.named in absurd (cc)
 no_number words none (query i q) line = let e : make_row.name ∷ words ≡ query_row.name ∷ line.behind = line.named in absurd (cc)
+no_number words none (live i o q k r) line = absurd (make_is_not_live words line.behind line.named)
 
 pub no_made_reordering : (words : List Word) → Reorders words None → Answers (make_row.name ∷ words) None
 no_made_reordering words none (make d o n k) spelt =
@@ -304,3 +323,61 @@ no_made_reordering words none (copy i o) line = absurd (copy_is_not_make line.be
 no_made_reordering words none (report i w) line = let e : make_row.name ∷ words ≡ report_row.name ∷ line.behind = line.named in absurd (cc)
 no_made_reordering words none (reorder i o k) line = let e : make_row.name ∷ words ≡ reorder_row.name ∷ line.behind = line.named in absurd (cc)
 no_made_reordering words none (query i q) line = let e : make_row.name ∷ words ≡ query_row.name ∷ line.behind = line.named in absurd (cc)
+no_made_reordering words none (live i o q k r) line = absurd (make_is_not_live words line.behind line.named)
+
+-- ---- the words behind `live`
+
+-- how many readers the words say
+abbrev Readers : List Word → Option ℕ → Type 0
+Readers words found = OfParts words (λ parts. Finds found (ComesTo readers_option (values_of readers_option.name parts)))
+
+only_live : (words : List Word) (input output queries : Word) (options : Reordering) (readers : ℕ) → Operand words 0 input → Operand words 1 output → Operand words 2 queries
+    → Readers words (Some readers) → Reorders words (Some options) → (other : Command) → IsCommand (live_row.name ∷ words) other → other ≡ live input output queries options readers
+only_live words input output queries options readers first second third counted all (live i o q k r) line =
+    let are = same_behind live_row.name words line.behind line.follow.parts line.named line.follow.whole in
+    let one : input ≡ i = same_Some input i (first line.follow.parts are ∙ ap (λ ns. slice_get ns 0) line.operands) in
+    let two : output ≡ o = same_Some output o (second line.follow.parts are ∙ ap (λ ns. slice_get ns 1) line.operands) in
+    let three : queries ≡ q = same_Some queries q (third line.follow.parts are ∙ ap (λ ns. slice_get ns 2) line.operands) in
+    let four : readers ≡ r = same_Some readers r ((counted line.follow.parts are r).1 line.options.0) in
+    let five : options ≡ k = same_Some options k ((all line.follow.parts are k).1 line.options.1) in
+    ap (λ m. live m o q k r) (sym one) ∙ ap (λ m. live input m q k r) (sym two) ∙ ap (λ m. live input output m k r) (sym three)
+    ∙ ap (λ m. live input output queries k m) (sym four) ∙ ap (λ m. live input output queries m readers) (sym five)
+only_live words input output queries options readers first second third counted all (copy i o) line = absurd (copy_is_not_live line.behind words (sym line.named))
+only_live words input output queries options readers first second third counted all (report i w) line = let e : live_row.name ∷ words ≡ report_row.name ∷ line.behind = line.named in absurd (cc)
+only_live words input output queries options readers first second third counted all (reorder i o k) line = let e : live_row.name ∷ words ≡ reorder_row.name ∷ line.behind = line.named in absurd (cc)
+only_live words input output queries options readers first second third counted all (query i q) line = let e : live_row.name ∷ words ≡ query_row.name ∷ line.behind = line.named in absurd (cc)
+only_live words input output queries options readers first second third counted all (make d o n k) line = absurd (make_is_not_live line.line.behind words (sym line.line.named))
+
+pub live_line : (words : List Word) (input output queries : Word) (options : Reordering) (readers : ℕ) → Follow 3 (readers_option ∷ reordering_options) words → Operand words 0 input
+    → Operand words 1 output → Operand words 2 queries → Readers words (Some readers) → Reorders words (Some options)
+    → SpellsOnly (live_row.name ∷ words) (live input output queries options readers)
+live_line words input output queries options readers follow first second third counted all = record {
+  spelt = record {
+    behind = words;
+    named = refl;
+    follow = follow;
+    operands = three_operands (operands_of follow.parts) input output queries follow.count (first follow.parts follow.whole) (second follow.parts follow.whole) (third follow.parts follow.whole);
+    options = ((counted follow.parts follow.whole readers).0 refl, (all follow.parts follow.whole options).0 refl);
+  };
+  only = only_live words input output queries options readers first second third counted all;
+}
+
+pub no_readers : (words : List Word) → Readers words None → Answers (live_row.name ∷ words) None
+no_readers words none (live i o q k r) line =
+    let are = same_behind live_row.name words line.behind line.follow.parts line.named line.follow.whole in
+    none-some r ((none line.follow.parts are r).1 line.options.0)
+no_readers words none (copy i o) line = absurd (copy_is_not_live line.behind words (sym line.named))
+no_readers words none (report i w) line = let e : live_row.name ∷ words ≡ report_row.name ∷ line.behind = line.named in absurd (cc)
+no_readers words none (reorder i o k) line = let e : live_row.name ∷ words ≡ reorder_row.name ∷ line.behind = line.named in absurd (cc)
+no_readers words none (query i q) line = let e : live_row.name ∷ words ≡ query_row.name ∷ line.behind = line.named in absurd (cc)
+no_readers words none (make d o n k) line = absurd (make_is_not_live line.line.behind words (sym line.line.named))
+
+pub no_live_reordering : (words : List Word) → Reorders words None → Answers (live_row.name ∷ words) None
+no_live_reordering words none (live i o q k r) line =
+    let are = same_behind live_row.name words line.behind line.follow.parts line.named line.follow.whole in
+    none-some k ((none line.follow.parts are k).1 line.options.1)
+no_live_reordering words none (copy i o) line = absurd (copy_is_not_live line.behind words (sym line.named))
+no_live_reordering words none (report i w) line = let e : live_row.name ∷ words ≡ report_row.name ∷ line.behind = line.named in absurd (cc)
+no_live_reordering words none (reorder i o k) line = let e : live_row.name ∷ words ≡ reorder_row.name ∷ line.behind = line.named in absurd (cc)
+no_live_reordering words none (query i q) line = let e : live_row.name ∷ words ≡ query_row.name ∷ line.behind = line.named in absurd (cc)
+no_live_reordering words none (make d o n k) line = absurd (make_is_not_live line.line.behind words (sym line.line.named))

@@ -269,6 +269,14 @@ two_operands (x ∷ []) a b n p q = absurd (omega (arith, n))
 two_operands (x ∷ y ∷ []) a b n p q = ap (λ z. z ∷ y ∷ []) (sym (same_Some a x p)) ∙ ap (λ z. a ∷ z ∷ []) (sym (same_Some b y q))
 two_operands (x ∷ y ∷ z ∷ zs) a b n p q = absurd (omega (arith, n))
 
+pub three_operands : (names : List Word) (a b c : Word) → length names ≡ 3 → Some a ≡ slice_get names 0 → Some b ≡ slice_get names 1 → Some c ≡ slice_get names 2 → names ≡ a ∷ b ∷ c ∷ []
+three_operands [] a b c n p q r = absurd (omega (arith, n))
+three_operands (x ∷ []) a b c n p q r = absurd (omega (arith, n))
+three_operands (x ∷ y ∷ []) a b c n p q r = absurd (omega (arith, n))
+three_operands (x ∷ y ∷ z ∷ []) a b c n p q r =
+    ap (λ w. w ∷ y ∷ z ∷ []) (sym (same_Some a x p)) ∙ ap (λ w. a ∷ w ∷ z ∷ []) (sym (same_Some b y q)) ∙ ap (λ w. a ∷ b ∷ w ∷ []) (sym (same_Some c z r))
+three_operands (w ∷ x ∷ y ∷ z ∷ zs) a b c n p q r = absurd (omega (arith, n))
+
 pub one_operand_name : (names : List Word) (a : Word) → length names ≡ 1 → Some a ≡ slice_get names 0 → names ≡ a ∷ []
 one_operand_name [] a n p = absurd (omega (arith, n))
 one_operand_name (x ∷ []) a n p = ap (λ z. z ∷ []) (sym (same_Some a x p))

@@ -41,6 +41,10 @@ start_option = record {
 abbrev pub number_option : OptionRow
 number_option = record { name = codes "--number"; values = range 0 4294967295; default = 1 }
 
+-- how many readers ask beside a reordering: 1 to 16, and 2 where nothing is said
+abbrev pub readers_option : OptionRow
+readers_option = record { name = codes "--readers"; values = range 1 16; default = 2 }
+
 -- how many documents a generated index has: 0 to 1000000
 abbrev pub document_counts : Values
 document_counts = range 0 1000000
@@ -78,6 +82,11 @@ abbrev pub make_row : Row
 make_row =
     record { name = codes "make"; operands = 2; options = number_option ∷ reordering_options }
 
+-- live IN OUT QUERIES
+abbrev pub live_row : Row
+live_row =
+    record { name = codes "live"; operands = 3; options = readers_option ∷ reordering_options }
+
 pub data Command : Type 0 where
   -- of IN and OUT
   copy : Word → Word → Command
@@ -89,6 +98,8 @@ pub data Command : Type 0 where
   query : Word → Word → Command
   -- of so many documents and OUT, drawn from a number, with these options
   make : ℕ → Word → ℕ → Reordering → Command
+  -- of IN, OUT and QUERIES, with these options, by so many readers
+  live : Word → Word → Word → Reordering → ℕ → Command
 
 -- the words are a line of `make`, whose first operand means so many documents
 pub record IsMake
@@ -107,6 +118,8 @@ IsCommand words (reorder input output options) =
 IsCommand words (query input queries) = IsLine query_row words (input ∷ queries ∷ []) []
 IsCommand words (make documents output number options) =
     IsMake words documents output number options
+IsCommand words (live input output queries options readers) =
+    IsLine live_row words (input ∷ output ∷ queries ∷ []) (readers ∷ numbers_of options)
 
 -- the words spell this command and no other
 pub record SpellsOnly (words : List Word) (command : Command) : Type 0 where

@@ -1,6 +1,6 @@
 -- The commands and the table of the code as those of the definitions.
 use Rattle.std.specs.Prelude.{map}
-use Rattle.command_words.specs.Command.{Command, copy, report, reorder, query, make}
+use Rattle.command_words.specs.Command.{Command, copy, report, reorder, query, make, live}
 use Rattle.command_words.specs.Line.{Values, range, either, OptionRow, Row, Part, operand, given}
 use Rattle.command_words.specs.declared.command.Command as code
 use Rattle.command_words.specs.declared.command.Command.TheVariants as commands
@@ -18,6 +18,8 @@ command_seen (commands.Reorder input output options) = reorder input.now output.
 command_seen (commands.Query input queries) = query input.now queries.now
 command_seen (commands.Make documents output number options) =
     make documents output.now number options
+command_seen (commands.Live input output queries options readers) =
+    live input.now output.now queries.now options readers
 
 abbrev pub values_seen : code_values.Values → Values
 values_seen (values.Numbers least most) = range least most

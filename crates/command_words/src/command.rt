@@ -1,15 +1,15 @@
 //! The commands that words spell.
 ghost use Rattle.std.specs.Prelude.{◌≡◌, ◌↔◌, ◌∷◌, Some, option_map};
 ghost use Rattle.command_words.specs.Line.{OfParts, ComeTo};
-ghost use Rattle.command_words.specs.Command.{Answers, copy_row, report_row, reorder_row, query_row, make_row, reordering_options, numbers_of, texts_of};
+ghost use Rattle.command_words.specs.Command.{Answers, copy_row, report_row, reorder_row, query_row, make_row, live_row, reordering_options, numbers_of, texts_of};
 ghost use Rattle.command_words.specs.View.{command_seen};
 
 use crate::number::meaning;
 use crate::part::{follow, operand, value_of};
 use crate::reordering::Reordering;
 use crate::table::{
-    COPY, DEPTH, DOCUMENTS, LEAF, MAKE, MIN_DF, NUMBER, QUERY, REORDER, REPORT, ROUNDS, START,
-    STEP, WORKERS,
+    COPY, DEPTH, DOCUMENTS, LEAF, LIVE, MAKE, MIN_DF, NUMBER, QUERY, READERS, REORDER, REPORT,
+    ROUNDS, START, STEP, WORKERS,
 };
 
 /// A command with its operands and the numbers of its options.
@@ -44,6 +44,14 @@ pub enum Command<'a> {
         output: &'a str,
         number: u32,
         options: Reordering,
+    },
+    /// As `Reorder`, while so many readers answer the queries of the file `queries`.
+    Live {
+        input: &'a str,
+        output: &'a str,
+        queries: &'a str,
+        options: Reordering,
+        readers: u32,
     },
 }
 
@@ -143,6 +151,27 @@ fn make_of(words: &[String]) -> Option<Command<'_>>
     })
 }
 
+// The words behind `live`.
+fn live_of(words: &[String]) -> Option<Command<'_>>
+    ensures { Answers (live_row.name ∷ texts_of words.now) (option_map command_seen result) }
+{
+    if !follow(words, &LIVE) {
+        return None;
+    }
+    let input = operand(words, 0)?;
+    let output = operand(words, 1)?;
+    let queries = operand(words, 2)?;
+    let readers = value_of(words, &READERS)?;
+    let options = reordering_of(words)?;
+    Some(Command::Live {
+        input,
+        output,
+        queries,
+        options,
+        readers,
+    })
+}
+
 /// The command that the words spell, or nothing where they spell none. It takes no memory.
 pub fn command_of(words: &[String]) -> Option<Command<'_>>
     ensures command { Answers (texts_of words.now) (option_map command_seen result) }
@@ -156,6 +185,7 @@ pub fn command_of(words: &[String]) -> Option<Command<'_>>
         "reorder" => reorder_of(rest),
         "query" => query_of(rest),
         "make" => make_of(rest),
+        "live" => live_of(rest),
         _ => None,
     }
 }

@@ -94,6 +94,13 @@ pub(crate) const NUMBER: OptionRow = OptionRow {
     default: 1,
 };
 
+/// How many readers ask beside a reordering.
+pub(crate) const READERS: OptionRow = OptionRow {
+    name: "--readers",
+    values: Values::Numbers { least: 1, most: 16 },
+    default: 2,
+};
+
 /// How many documents a generated index has.
 pub(crate) const DOCUMENTS: Values = Values::Numbers {
     least: 0,
@@ -136,4 +143,11 @@ pub(crate) const MAKE: Row = Row {
     name: "make",
     operands: 2,
     options: &[NUMBER, DEPTH, ROUNDS, LEAF, WORKERS, STEP, MIN_DF, START],
+};
+
+/// `live IN OUT QUERIES`
+pub(crate) const LIVE: Row = Row {
+    name: "live",
+    operands: 3,
+    options: &[READERS, DEPTH, ROUNDS, LEAF, WORKERS, STEP, MIN_DF, START],
 };

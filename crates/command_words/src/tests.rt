@@ -378,3 +378,72 @@ fn options_of_a_row_in_any_order(rt: HostRuntime) -> Result<(), Fail> {
     assert_eq!(rt; meaning(START.values, "number"), Some(0));
     Ok(())
 }
+
+/// The words of `live`, and what they come to.
+#[test]
+fn words_that_are_a_live_reordering(rt: HostRuntime) -> Result<(), Fail> {
+    let options = Reordering {
+        depth: 2,
+        by_name: true,
+        ..PLAIN
+    };
+    let rows: [(&[&str], &str, Reordering, u32); 6] = [
+        (&["live", "a", "b", "c"], "c", PLAIN, 2),
+        (&["live", "a", "b", "b"], "b", PLAIN, 2),
+        (&["live", "--readers", "1", "a", "b", "c"], "c", PLAIN, 1),
+        (&["live", "a", "--readers", "16", "b", "c"], "c", PLAIN, 16),
+        (&["live", "a", "b", "c", "--readers", "003"], "c", PLAIN, 3),
+        (
+            &[
+                "live",
+                "a",
+                "--start",
+                "name",
+                "b",
+                "--readers",
+                "7",
+                "c",
+                "--depth",
+                "2",
+            ],
+            "c",
+            options,
+            7,
+        ),
+    ];
+    for (words, queries, options, readers) in rows {
+        let words = words_of(rt.alloc(), words)?;
+        let command = Command::Live {
+            input: "a",
+            output: "b",
+            queries,
+            options,
+            readers,
+        };
+        assert_eq!(rt; command_of(&words), Some(command), "{words:?}");
+    }
+    Ok(())
+}
+
+#[test]
+fn words_that_are_no_live_reordering(rt: HostRuntime) -> Result<(), Fail> {
+    let rows: [&[&str]; 12] = [
+        &["live"],
+        &["live", "a", "b"],
+        &["live", "a", "b", "c", "d"],
+        &["Live", "a", "b", "c"],
+        &["live", "a", "b", "c", "--readers"],
+        &["live", "a", "b", "c", "--readers", "0"],
+        &["live", "a", "b", "c", "--readers", "17"],
+        &["live", "a", "b", "--readers", "c"],
+        &["live", "a", "b", "c", "--number", "1"],
+        &["live", "a", "b", "c", "--depth", "32"],
+        &["live", "a", "b", "c", "--readers", "1", "--readers", "1"],
+        &["reorder", "a", "b", "--readers", "2"],
+    ];
+    for words in rows {
+        let words = words_of(rt.alloc(), words)?;
+        assert_eq!(rt; command_of(&words), None, "{words:?}");
+    }
+    Ok(())
+}

@@ -7,7 +7,7 @@ use Rattle.command_words.specs.Command.{Command, IsCommand, Answers}
 use Rattle.rgb_app.specs.Outcome.{Outcome, Written, Work, done, malformed, missing, bad_query, too_long, ComesTo}
 use Rattle.rgb_app.specs.Status.{code_of, warning_of, status_of}
 use Rattle.rgb_app.specs.Ends.{DoesComeTo, with_written, Says, SpellsNone, SpellsOne, Runs, Warned, Ends, IsDisturbed, IsExact, IsCutOff, not_created, not_written, not_printed}
-use Rattle.rgb_app.specs.Laws.{OneOutcome}
+use Rattle.rgb_app.specs.Laws.{AreAlike, AlikeOutcomes}
 use Rattle.rgb_app.specs.declared.status.Status.{Status}
 use Rattle.rgb_app.specs.declared.status.Status.TheVariants.{Done, Usage, Malformed, ReadFault, WriteFault, Memory, BadQuery, TooLong}
 
@@ -23,18 +23,18 @@ usage_code Memory command before after says is = absurd (cc)
 usage_code (BadQuery line at cause) command before after says is = absurd (cc)
 usage_code TooLong command before after says is = absurd (cc)
 
-usage_means : (status : Status) (words : List Word) (before after : Seen) → Runs status words before after → code_of status ≡ 2 → SpellsNone words
-usage_means status words before after (inl p) is = p.0
-usage_means status words before after (inr p) is = absurd (usage_code status p.0 before after p.2 is)
+usage_means : (Does : Command → Type 0) (status : Status) (words : List Word) (before after : Seen) → Runs Does status words before after → code_of status ≡ 2 → SpellsNone Does words
+usage_means Does status words before after (inl p) is = p.0
+usage_means Does status words before after (inr p) is = absurd (usage_code status p.0 before after p.3 is)
 
-refused_words : (status : Status) (words : List Word) (before after : Seen) → Runs status words before after → SpellsNone words → status ≡ Usage
-refused_words status words before after (inl p) none = p.1
-refused_words status words before after (inr p) none = absurd (none p.0 p.1)
+refused_words : (Does : Command → Type 0) (status : Status) (words : List Word) (before after : Seen) → Runs Does status words before after → SpellsNone Does words → status ≡ Usage
+refused_words Does status words before after (inl p) none = p.1
+refused_words Does status words before after (inr p) none = absurd (none p.0 p.1 p.2)
 
-pub usage_comes : (words : List Word) (before after : Seen) (number : ℕ) → Ends words before after number → (number ≡ 2) ↔ SpellsNone words
-usage_comes words before after number e = (
-  (λ is. usage_means e.status words before e.between e.runs (sym e.code ∙ is)),
-  (λ none. e.code ∙ ap code_of (refused_words e.status words before e.between e.runs none)),
+pub usage_comes : (Does : Command → Type 0) (words : List Word) (before after : Seen) (number : ℕ) → Ends Does words before after number → (number ≡ 2) ↔ SpellsNone Does words
+usage_comes Does words before after number e = (
+  (λ is. usage_means Does e.status words before e.between e.runs (sym e.code ∙ is)),
+  (λ none. e.code ∙ ap code_of (refused_words Does e.status words before e.between e.runs none)),
 )
 
 -- ---- the line that is warned changes no count of the work
@@ -76,28 +76,46 @@ cut_off_rose work before after (not_printed cut) = subst (λ n. Rose n after.wri
 
 -- ---- the outcome's status
 
--- over the files that are told there is one outcome
-told_one : OneOutcome → (command : Command) (told : Option Files) (one other : Outcome) → IfSome told (λ files. ComesTo command files one) → IsSomeAnd told (λ files. ComesTo command files other) → one ≡ other
+alike_status : (one other : Outcome) → AreAlike one other → status_of one ≡ status_of other
+alike_status (done work) (done other) alike = refl
+alike_status (done work) (malformed place cause) alike = ap status_of alike
+alike_status (done work) missing alike = ap status_of alike
+alike_status (done work) (bad_query line at cause) alike = ap status_of alike
+alike_status (done work) too_long alike = ap status_of alike
+alike_status (malformed place cause) other alike = ap status_of alike
+alike_status missing other alike = ap status_of alike
+alike_status (bad_query line at cause) other alike = ap status_of alike
+alike_status too_long other alike = ap status_of alike
+
+-- a failed write can keep work from being done
+write_disturbs : (work : Work) (outcome : Outcome) (before after : Seen) → AreAlike (done work) outcome → Rose before.write_faults after.write_faults → IsDisturbed outcome before after
+write_disturbs work (done other) before after alike rose = inr rose
+write_disturbs work (malformed place cause) before after alike rose = absurd (cc)
+write_disturbs work missing before after alike rose = absurd (cc)
+write_disturbs work (bad_query line at cause) before after alike rose = absurd (cc)
+write_disturbs work too_long before after alike rose = absurd (cc)
+
+-- over the files that are told outcomes are alike
+told_one : AlikeOutcomes → (command : Command) (told : Option Files) (one other : Outcome) → IfSome told (λ files. ComesTo command files one) → IsSomeAnd told (λ files. ComesTo command files other) → AreAlike one other
 told_one law command None one other p q = absurd q
 told_one law command (Some files) one other p q = law command files one other p q
 
-told_both : OneOutcome → (command : Command) (told : Option Files) (one other : Outcome) → IsSomeAnd told (λ files. ComesTo command files one) → IsSomeAnd told (λ files. ComesTo command files other) → one ≡ other
+told_both : AlikeOutcomes → (command : Command) (told : Option Files) (one other : Outcome) → IsSomeAnd told (λ files. ComesTo command files one) → IsSomeAnd told (λ files. ComesTo command files other) → AreAlike one other
 told_both law command None one other p q = absurd q
 told_both law command (Some files) one other p q = law command files one other p q
 
-status_tells : OneOutcome → (status : Status) (command : Command) (outcome : Outcome) (before after : Seen) → Says status command before after → DoesComeTo command before outcome → ¬ IsDisturbed outcome before after
+status_tells : AlikeOutcomes → (status : Status) (command : Command) (outcome : Outcome) (before after : Seen) → Says status command before after → DoesComeTo command before outcome → ¬ IsDisturbed outcome before after
     → (status ≡ status_of outcome) ⊎ (status ≡ Memory)
-status_tells law Done command outcome before after says told calm = inl (ap status_of (told_one law command before.files (done says.0) outcome says.1 told))
+status_tells law Done command outcome before after says told calm = inl (alike_status (done says.0) outcome (told_one law command before.files (done says.0) outcome says.1 told))
 status_tells law Usage command outcome before after says told calm = absurd says
-status_tells law (Malformed place cause) command outcome before after says told calm = inl (ap status_of (told_one law command before.files (malformed place cause) outcome says.0 told))
+status_tells law (Malformed place cause) command outcome before after says told calm = inl (alike_status (malformed place cause) outcome (told_one law command before.files (malformed place cause) outcome says.0 told))
 status_tells law ReadFault command outcome before after (inl failed) told calm = absurd (calm (read_disturbs outcome before after failed.rose))
-status_tells law ReadFault command outcome before after (inr says) told calm = inl (ap status_of (told_both law command before.files missing outcome says.0 told))
+status_tells law ReadFault command outcome before after (inr says) told calm = inl (alike_status missing outcome (told_both law command before.files missing outcome says.0 told))
 status_tells law WriteFault command outcome before after says told calm =
-    let same : done says.0 ≡ outcome = told_one law command before.files (done says.0) outcome says.1 told in
-    absurd (subst (λ o. ¬ IsDisturbed o before after) (sym same) calm (inr (cut_off_rose says.0 before after says.2)))
+    absurd (calm (write_disturbs says.0 outcome before after (told_one law command before.files (done says.0) outcome says.1 told) (cut_off_rose says.0 before after says.2)))
 status_tells law Memory command outcome before after says told calm = inr refl
-status_tells law (BadQuery line at cause) command outcome before after says told calm = inl (ap status_of (told_one law command before.files (bad_query line at cause) outcome says.0 told))
-status_tells law TooLong command outcome before after says told calm = inl (ap status_of (told_one law command before.files too_long outcome says.0 told))
+status_tells law (BadQuery line at cause) command outcome before after says told calm = inl (alike_status (bad_query line at cause) outcome (told_one law command before.files (bad_query line at cause) outcome says.0 told))
+status_tells law TooLong command outcome before after says told calm = inl (alike_status too_long outcome (told_one law command before.files too_long outcome says.0 told))
 
 -- words spell one command at most, as their reading says
 pub answers_one : (words : List Word) (found : Option Command) → Answers words found → SpellsOne words
@@ -108,13 +126,13 @@ code_tells : (number : ℕ) (status other : Status) → number ≡ code_of statu
 code_tells number status other code (inl is) = inl (code ∙ ap code_of is)
 code_tells number status other code (inr is) = inr (code ∙ ap code_of is)
 
-runs_tell : OneOutcome → (status : Status) (words : List Word) (before after : Seen) (outcome : Outcome) (command : Command) → SpellsOne words → Runs status words before after → IsCommand words command
+runs_tell : AlikeOutcomes → (Does : Command → Type 0) (status : Status) (words : List Word) (before after : Seen) (outcome : Outcome) (command : Command) → SpellsOne words → Runs Does status words before after → Does command → IsCommand words command
     → DoesComeTo command before outcome → ¬ IsDisturbed outcome before after → (status ≡ status_of outcome) ⊎ (status ≡ Memory)
-runs_tell law status words before after outcome command only (inl p) spells told calm = absurd (p.0 command spells)
-runs_tell law status words before after outcome command only (inr p) spells told calm =
-    status_tells law status command outcome before after (subst (λ k. Says status k before after) (only p.0 command p.1 spells) p.2) told calm
+runs_tell law Does status words before after outcome command only (inl p) does spells told calm = absurd (p.0 command does spells)
+runs_tell law Does status words before after outcome command only (inr p) does spells told calm =
+    status_tells law status command outcome before after (subst (λ k. Says status k before after) (only p.0 command p.2 spells) p.3) told calm
 
-pub exact_comes : OneOutcome → (words : List Word) (before after : Seen) (number : ℕ) → SpellsOne words → Ends words before after number → IsExact words before after number
-exact_comes law words before after number only e = λ command spells outcome told calm.
-    code_tells number e.status (status_of outcome) e.code (runs_tell law e.status words before e.between outcome command only e.runs spells told
+pub exact_comes : AlikeOutcomes → (Does : Command → Type 0) (words : List Word) (before after : Seen) (number : ℕ) → SpellsOne words → Ends Does words before after number → IsExact Does words before after number
+exact_comes law Does words before after number only e = λ command does spells outcome told calm.
+    code_tells number e.status (status_of outcome) e.code (runs_tell law Does e.status words before e.between outcome command only e.runs does spells told
     (λ d. calm (disturbed_after outcome before e.between after (keeps_reads (warning_of e.status) e.between after e.warned) (keeps_writes (warning_of e.status) e.between after e.warned) d)))

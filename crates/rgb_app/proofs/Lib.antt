@@ -1,6 +1,7 @@
 pub mod Delivery
 pub mod Prints
 pub mod Reorderings
+pub mod LiveOnes
 pub mod Outcomes
 pub mod Endings
 pub mod Texts

@@ -10,10 +10,10 @@ use Rattle.ciff_format.specs.declared.cause.Cause.{Cause}
 use Rattle.ciff_format.specs.Laws.{FileIsOneIndex, AcceptedIsIndex, RefusalIsOne, NeverBoth, EveryFileIsRead}
 use Rattle.rgb_host.specs.Files.{Files}
 use Rattle.command_words.specs.Line.{Word}
-use Rattle.command_words.specs.Command.{Command, copy, report, reorder, query, make}
+use Rattle.command_words.specs.Command.{Command, copy, report, reorder, query, make, live}
 use Rattle.command_words.specs.declared.reordering.Reordering.{Reordering}
 use Rattle.cell_claims.specs.declared.trace.KeptRound.{KeptRound}
-use Rattle.rgb_app.specs.Text.{index_line, report_text, reorder_text, query_text, make_text}
+use Rattle.rgb_app.specs.Text.{index_line, report_text, reorder_text, query_text, make_text, live_text}
 use Rattle.rgb_app.specs.Reordering.{IsReordered}
 use Rattle.rgb_app.specs.Summary.{IsSummary}
 use Rattle.generated_index.specs.Laws.{GeneratedIsIndex}
@@ -23,8 +23,11 @@ use Rattle.query_file.specs.Queries.{Numbered, AreQueries, IsTooLong, IsFirstFau
 use Rattle.query_file.specs.Laws.{QueriesAreOne, FirstFaultIsOne, AcceptedHasNoFault, Verdict, accepted, too_long as long_file, at_fault, EveryFileHasVerdict}
 use Rattle.query_file.specs.declared.error.LineCause.{LineCause}
 use Rattle.rgb_app.specs.Answering.{AreAnswers}
-use Rattle.rgb_app.specs.Outcome.{Input, index_file, query_file, inputs_of, Work, Outcome, done, malformed, missing, bad_query, too_long, IsGood, Stops, FirstStops, writing, printing, index_made, IsWork, ComesTo}
-use Rattle.rgb_app.specs.Laws.{OneOutcome, SomeOutcome}
+use Rattle.rgb_app.specs.Outcome.{Input, index_file, query_file, inputs_of, Work, Outcome, done, malformed, missing, bad_query, too_long, IsGood, Stops, FirstStops, writing, printing, index_made, IsPlain, IsLiveWork, IsWork, ComesTo}
+use Rattle.rgb_app.specs.Laws.{OneOutcome, AreAlike, AlikeOutcomes, VersionsTellTheWork, SomeOutcome}
+use Rattle.rgb_app.specs.Live.{AreLive}
+use Rattle.rgb_app.specs.declared.live_answers.LiveAnswer.{LiveAnswer}
+use Rattle.rgb_app.proofs.LiveOnes.{LiveLaws, live_answers_are_one, same_versions, same_last}
 
 -- ---- the file of an input
 
@@ -54,6 +57,10 @@ found_not_gone (Some file) index good gone = cc
 bad_not_gone : (found : Option (List ℕ)) (place : ℕ) (cause : Cause) → IsBad found place cause → found ≡ None → ⊥
 bad_not_gone None place cause bad gone = bad
 bad_not_gone (Some file) place cause bad gone = cc
+
+found_is_index : AcceptedIsIndex → (found : Option (List ℕ)) (index : IndexParts) → IsFound found index → IsIndex index
+found_is_index law None index found = absurd found
+found_is_index law (Some file) index found = law file index found
 
 -- ---- the file of queries
 
@@ -155,30 +162,59 @@ first_is_one law never laws files (input ∷ inputs) one other (inr p) (inr q) =
 
 -- ---- work
 
-work_is_one : FileIsOneIndex → AreOne → QueryLaws → (files : Files) (command : Command) (one other : Work) → IsWork files command one → IsWork files command other → one ≡ other
-work_is_one law laws told files (copy input output) one other p q =
+work_is_one : FileIsOneIndex → AreOne → QueryLaws → (files : Files) (command : Command) (one other : Work) → IsPlain command → IsWork files command one → IsWork files command other → one ≡ other
+work_is_one law laws told files (copy input output) one other plain p q =
     let same : p.0 ≡ q.0 = one_index law (get files input) p.0 q.0 p.1 q.1 in
     p.2 ∙ ap (λ index. writing output (bytes_of index) (index_line index)) same ∙ sym q.2
-work_is_one law laws told files (report input workers) one other p q =
+work_is_one law laws told files (report input workers) one other plain p q =
     let same : p.0 ≡ q.0 = one_index law (get files input) p.0 q.0 p.1 q.1 in
     p.2 ∙ ap (λ index. printing (report_text index)) same ∙ sym q.2
-work_is_one law laws told files (reorder input output options) one other p q =
+work_is_one law laws told files (reorder input output options) one other plain p q =
     let same : p.0 ≡ q.0 = one_index law (get files input) p.0 q.0 p.3 q.3 in
     let reordered : IsReordered options q.0 p.1 p.2 = subst (λ (index : IndexParts). IsReordered options index p.1 p.2) same p.4 in
     let both = one_reordering laws options q.0 p.1 q.1 p.2 q.2 reordered q.4 in
     let work : IndexParts → IndexParts → List KeptRound → Work = λ index new trace. writing output (bytes_of new) (reorder_text index new trace) in
     p.5 ∙ ap (λ index. work index p.1 p.2) same ∙ ap (λ new. work q.0 new p.2) both.new ∙ ap (work q.0 q.1) both.trace ∙ sym q.5
-work_is_one law laws told files (query input queries) one other p q =
+work_is_one law laws told files (query input queries) one other plain p q =
     let same : p.0 ≡ q.0 = one_index law (get files input) p.0 q.0 p.3 q.3 in
     let asked : p.1 ≡ q.1 = same_queries told (get files queries) p.1 q.1 p.4 q.4 in
     let answered : AreAnswers q.0 q.1 p.2 = subst (λ (qs : List Numbered). AreAnswers q.0 qs p.2) asked (subst (λ (index : IndexParts). AreAnswers index p.1 p.2) same p.5) in
     let answers : p.2 ≡ q.2 = answers_are_one told.answers q.0 q.1 p.2 q.2 answered q.5 in
     p.6 ∙ ap (λ index. printing (query_text index p.2)) same ∙ ap (λ all. printing (query_text q.0 all)) answers ∙ sym q.6
-work_is_one law laws told files (make documents output number options) one other p q =
+work_is_one law laws told files (make documents output number options) one other plain p q =
     let index = index_made documents number in
     let both = one_reordering laws options index p.1.new q.1.new p.1.trace q.1.trace p.1.is_reordered q.1.is_reordered in
     let same : p.0 ≡ q.0 = p.1.is_text ∙ ap (λ new. make_text index new p.1.trace) both.new ∙ ap (make_text index q.1.new) both.trace ∙ sym q.1.is_text in
     p.2 ∙ ap (writing output (bytes_of index)) same ∙ sym q.2
+work_is_one law laws told files (live input output queries options readers) one other plain p q = absurd plain
+
+-- the works of `live` write one file
+live_file : FileIsOneIndex → AreOne → (files : Files) (input output queries : Word) (options : Reordering) (readers : ℕ) (versions others : List ℕ) (one other : Work)
+    → IsLiveWork files input output queries options readers versions one → IsLiveWork files input output queries options readers others other → one.file ≡ other.file
+live_file law laws files input output queries options readers versions others one other p q =
+    let same : p.index ≡ q.index = one_index law (get files input) p.index q.index p.holds q.holds in
+    let reordered : IsReordered options q.index p.new p.trace = subst (λ (index : IndexParts). IsReordered options index p.new p.trace) same p.is_reordered in
+    let both = one_reordering laws options q.index p.new q.new p.trace q.trace reordered q.is_reordered in
+    ap (λ (work : Work). work.file) p.is_work ∙ ap (λ (new : IndexParts). (writing output (bytes_of new) []).file) both.new ∙ sym (ap (λ (work : Work). work.file) q.is_work)
+
+-- and where the versions are the same they are one
+pub live_work_is_one : FileIsOneIndex → AcceptedIsIndex → AreOne → QueryLaws → LiveLaws → VersionsTellTheWork
+live_work_is_one law sound laws told lives files input output queries options readers versions one other p q =
+    let same : p.index ≡ q.index = one_index law (get files input) p.index q.index p.holds q.holds in
+    let reordered : IsReordered options q.index p.new p.trace = subst (λ (index : IndexParts). IsReordered options index p.new p.trace) same p.is_reordered in
+    let both = one_reordering laws options q.index p.new q.new p.trace q.trace reordered q.is_reordered in
+    let asked : p.asked ≡ q.asked = same_queries told (get files queries) p.asked q.asked p.holds_queries q.holds_queries in
+    let live_there : AreLive options readers q.index q.asked p.answers p.finals =
+    subst (λ (all : List Numbered). AreLive options readers q.index all p.answers p.finals) asked (subst (λ (index : IndexParts). AreLive options readers index p.asked p.answers p.finals) same p.are_live) in
+    let is_index = found_is_index sound (get files input) q.index q.holds in
+    let answers : p.answers ≡ q.answers =
+    live_answers_are_one lives options q.index is_index q.asked p.answers q.answers live_there.answered q.are_live.answered (same_versions p.answers q.answers (sym p.are_versions ∙ q.are_versions)) in
+    let finals : p.finals ≡ q.finals =
+    live_answers_are_one lives options q.index is_index q.asked p.finals q.finals live_there.again q.are_live.again (same_last options p.finals q.finals live_there.last q.are_live.last) in
+    let work : IndexParts → IndexParts → List KeptRound → List LiveAnswer → List LiveAnswer → Work = λ index new trace answers finals. writing output (bytes_of new) (live_text index new trace readers answers finals) in
+    p.is_work ∙ ap (λ (index : IndexParts). work index p.new p.trace p.answers p.finals) same ∙ ap (λ (new : IndexParts). work q.index new p.trace p.answers p.finals) both.new
+    ∙ ap (λ (trace : List KeptRound). work q.index q.new trace p.answers p.finals) both.trace ∙ ap (λ (all : List LiveAnswer). work q.index q.new q.trace all p.finals) answers
+    ∙ ap (work q.index q.new q.trace q.answers) finals ∙ sym q.is_work
 
 -- where there is work no input stops it
 work_goes_on : NeverBoth → QueryLaws → (files : Files) (command : Command) (work : Work) (outcome : Outcome) → IsWork files command work → FirstStops files (inputs_of command) outcome → ⊥
@@ -192,6 +228,9 @@ work_goes_on law laws files (query input queries) work outcome p (inl s) = good_
 work_goes_on law laws files (query input queries) work outcome p (inr (good, inl s)) = good_does_not_stop law laws files (query_file queries) outcome (p.1, p.4) s
 work_goes_on law laws files (query input queries) work outcome p (inr (good, inr s)) = s.1
 work_goes_on law laws files (make documents output number options) work outcome p s = s
+work_goes_on law laws files (live input output queries options readers) work outcome p (inl s) = good_does_not_stop law laws files (index_file input) outcome (p.1.index, p.1.holds) s
+work_goes_on law laws files (live input output queries options readers) work outcome p (inr (good, inl s)) = good_does_not_stop law laws files (query_file queries) outcome (p.1.asked, p.1.holds_queries) s
+work_goes_on law laws files (live input output queries options readers) work outcome p (inr (good, inr s)) = s.1
 
 -- the command did its work, or an input stopped it
 data Came (files : Files) (command : Command) (outcome : Outcome) : Type 0 where
@@ -206,13 +245,51 @@ came files command (bad_query line at cause) p = stopped p
 came files command too_long p = stopped p
 
 pub one_outcome : FileIsOneIndex → RefusalIsOne → NeverBoth → AreOne → QueryLaws → OneOutcome
-one_outcome law refusal never laws told command files one other p q = agree (came files command one p) (came files command other q)
+one_outcome law refusal never laws told command plain files one other p q = agree (came files command one p) (came files command other q)
   where
     agree : Came files command one → Came files command other → one ≡ other
-    agree (worked a is x) (worked b same y) = is ∙ ap done (work_is_one law laws told files command a b x y) ∙ sym same
+    agree (worked a is x) (worked b same y) = is ∙ ap done (work_is_one law laws told files command a b plain x y) ∙ sym same
     agree (worked a is x) (stopped y) = absurd (work_goes_on never told files command a other x y)
     agree (stopped x) (worked b same y) = absurd (work_goes_on never told files command b one y x)
     agree (stopped x) (stopped y) = first_is_one refusal never told files (inputs_of command) one other x y
+
+-- ---- it is alike for any command
+
+same_alike : (one other : Outcome) → one ≡ other → AreAlike one other
+same_alike (done work) (done another) same = let e : work ≡ another = cc in ap (λ (w : Work). w.file) e
+same_alike (done work) (malformed place cause) same = same
+same_alike (done work) missing same = same
+same_alike (done work) (bad_query line at cause) same = same
+same_alike (done work) too_long same = same
+same_alike (malformed place cause) other same = same
+same_alike missing other same = same
+same_alike (bad_query line at cause) other same = same
+same_alike too_long other same = same
+
+done_alike : (one other : Outcome) (work another : Work) → one ≡ done work → other ≡ done another → work.file ≡ another.file → AreAlike one other
+done_alike one other work another is same file = subst (λ (o : Outcome). AreAlike o other) (sym is) (subst (λ (o : Outcome). AreAlike (done work) o) (sym same) file)
+
+alike_live : FileIsOneIndex → RefusalIsOne → NeverBoth → AreOne → QueryLaws → (files : Files) (input output queries : Word) (options : Reordering) (readers : ℕ) (one other : Outcome)
+    → Came files (live input output queries options readers) one → Came files (live input output queries options readers) other → AreAlike one other
+alike_live law refusal never laws told files input output queries options readers one other (worked a is x) (worked b same y) =
+    done_alike one other a b is same (live_file law laws files input output queries options readers x.0 y.0 a b x.1 y.1)
+alike_live law refusal never laws told files input output queries options readers one other (worked a is x) (stopped y) =
+    absurd (work_goes_on never told files (live input output queries options readers) a other x y)
+alike_live law refusal never laws told files input output queries options readers one other (stopped x) (worked b same y) =
+    absurd (work_goes_on never told files (live input output queries options readers) b one y x)
+alike_live law refusal never laws told files input output queries options readers one other (stopped x) (stopped y) =
+    same_alike one other (first_is_one refusal never told files (inputs_of (live input output queries options readers)) one other x y)
+
+pub alike_outcomes : FileIsOneIndex → RefusalIsOne → NeverBoth → AreOne → QueryLaws → AlikeOutcomes
+alike_outcomes law refusal never laws told (live input output queries options readers) files one other p q =
+    alike_live law refusal never laws told files input output queries options readers one other
+    (came files (live input output queries options readers) one p) (came files (live input output queries options readers) other q)
+alike_outcomes law refusal never laws told (copy input output) files one other p q = same_alike one other (one_outcome law refusal never laws told (copy input output) tt files one other p q)
+alike_outcomes law refusal never laws told (report input workers) files one other p q = same_alike one other (one_outcome law refusal never laws told (report input workers) tt files one other p q)
+alike_outcomes law refusal never laws told (reorder input output options) files one other p q = same_alike one other (one_outcome law refusal never laws told (reorder input output options) tt files one other p q)
+alike_outcomes law refusal never laws told (query input queries) files one other p q = same_alike one other (one_outcome law refusal never laws told (query input queries) tt files one other p q)
+alike_outcomes law refusal never laws told (make documents output number options) files one other p q =
+    same_alike one other (one_outcome law refusal never laws told (make documents output number options) tt files one other p q)
 
 -- ---- there is one
 
@@ -239,10 +316,6 @@ some_report : (files : Files) (input : Word) (workers : ℕ) → Reading (get fi
 some_report files input workers (good index holds) = (done (printing (report_text index)), (index, holds, refl))
 some_report files input workers (bad place cause is) = (malformed place cause, inl is)
 some_report files input workers (gone is) = (missing, inl is)
-
-found_is_index : AcceptedIsIndex → (found : Option (List ℕ)) (index : IndexParts) → IsFound found index → IsIndex index
-found_is_index law None index found = absurd found
-found_is_index law (Some file) index found = law file index found
 
 some_reorder : AcceptedIsIndex → AreThere → (files : Files) (input output : Word) (options : Reordering) → Reading (get files input) → (outcome : Outcome) × ComesTo (reorder input output options) files outcome
 some_reorder sound laws files input output options (good index holds) =
@@ -287,8 +360,9 @@ some_query sound laws files input queries (good index holds) (faulty line at cau
 some_query sound laws files input queries (good index holds) (no_file is) = (missing, inr ((index, holds), inl is))
 
 pub some_outcome : EveryFileIsRead → AcceptedIsIndex → GeneratedIsIndex → AreThere → EveryFileHasVerdict → AnswerLaws → SomeOutcome
-some_outcome law sound generates laws verdicts answers (copy input output) files bytes = some_copy files input output (reading law (get files input) (bytes input))
-some_outcome law sound generates laws verdicts answers (report input workers) files bytes = some_report files input workers (reading law (get files input) (bytes input))
-some_outcome law sound generates laws verdicts answers (reorder input output options) files bytes = some_reorder sound laws files input output options (reading law (get files input) (bytes input))
-some_outcome law sound generates laws verdicts answers (query input queries) files bytes = some_query sound answers files input queries (reading law (get files input) (bytes input)) (asking verdicts (get files queries))
-some_outcome law sound generates laws verdicts answers (make documents output number options) files bytes = some_make generates laws files documents output number options
+some_outcome law sound generates laws verdicts answers (copy input output) plain files bytes = some_copy files input output (reading law (get files input) (bytes input))
+some_outcome law sound generates laws verdicts answers (report input workers) plain files bytes = some_report files input workers (reading law (get files input) (bytes input))
+some_outcome law sound generates laws verdicts answers (reorder input output options) plain files bytes = some_reorder sound laws files input output options (reading law (get files input) (bytes input))
+some_outcome law sound generates laws verdicts answers (query input queries) plain files bytes = some_query sound answers files input queries (reading law (get files input) (bytes input)) (asking verdicts (get files queries))
+some_outcome law sound generates laws verdicts answers (make documents output number options) plain files bytes = some_make generates laws files documents output number options
+some_outcome law sound generates laws verdicts answers (live input output queries options readers) plain files bytes = absurd plain

@@ -90,7 +90,7 @@ all_of : (xs : List ℕ) (n : ℕ) → length xs ≡ n → map (slice_index xs) 
 all_of xs n len = ext_get_or 0 (map (slice_index xs) (range_with_len 0 n)) xs (length-map-range_with_len (slice_index xs) 0 n ∙ sym len)
     (λ i lt. get_or-map-range_with_len (slice_index xs) 0 n i i 0 (omega (arith, lt, length-map-range_with_len (slice_index xs) 0 n)) (zero-add i))
 
-numbering_ordered : EachDocumentOnce → (options : Reordering) (index : IndexParts) (numbering : List ℕ) (trace : List KeptRound) → IsNumberingBy options index numbering trace → IsOrderOf index numbering
+pub numbering_ordered : EachDocumentOnce → (options : Reordering) (index : IndexParts) (numbering : List ℕ) (trace : List KeptRound) → IsNumberingBy options index numbering trace → IsOrderOf index numbering
 numbering_ordered law options index numbering trace is =
     let whole = is.is_numbering in
     let forward = whole.forward in
@@ -109,11 +109,11 @@ numbering_ordered law options index numbering trace is =
 -- ---- it is one
 
 -- two numberings of an index by the same options
-record Same (a b : List ℕ) (s t : List KeptRound) : Type 0 where
+pub record Same (a b : List ℕ) (s t : List KeptRound) : Type 0 where
   pub numbering : a ≡ b
   pub trace : s ≡ t
 
-one_numbering : AreOne → (options : Reordering) (index : IndexParts) (a b : List ℕ) (s t : List KeptRound) → IsNumberingBy options index a s → IsNumberingBy options index b t → Same a b s t
+pub one_numbering : AreOne → (options : Reordering) (index : IndexParts) (a b : List ℕ) (s t : List KeptRound) → IsNumberingBy options index a s → IsNumberingBy options index b t → Same a b s t
 one_numbering laws options index a b s t p q =
     let start : q.start ≡ p.start = start_is_one laws.start options.by_name index q.start p.start q.is_start p.is_start in
     let one = p.is_numbering in
@@ -141,7 +141,7 @@ one_reordering laws options index new other s t p q =
 -- ---- it is there
 
 -- the numbers in order are an order
-range_ordered : (n : ℕ) → n < 2 ^ 31 → IsOrder (range_with_len 0 n)
+pub range_ordered : (n : ℕ) → n < 2 ^ 31 → IsOrder (range_with_len 0 n)
 range_ordered n small =
     let len = length-range_with_len 0 n in
     record {
@@ -164,12 +164,12 @@ some_start law true index small = let by_name = law index small in record { star
 some_start law false index small = record { start = range_with_len 0 (length index.documents); is_start = refl; ordered = range_ordered (length index.documents) small }
 
 -- the options have a numbering of the index's documents
-record HasNumberingBy (options : Reordering) (index : IndexParts) : Type 0 where
+pub record HasNumberingBy (options : Reordering) (index : IndexParts) : Type 0 where
   pub numbering : List ℕ
   pub trace : List KeptRound
   pub is_numbering : IsNumberingBy options index numbering trace
 
-some_numbering : AreThere → (options : Reordering) (index : IndexParts) → IsIndex index → HasNumberingBy options index
+pub some_numbering : AreThere → (options : Reordering) (index : IndexParts) → IsIndex index → HasNumberingBy options index
 some_numbering laws options index is =
     let first = some_start laws.start options.by_name index is.counted.documents in
     let numbered = laws.numbering index options.min_df first.start (limits_of options) options.depth is first.ordered (start_len options.by_name index first.start first.is_start) in

@@ -60,18 +60,21 @@ Says (BadQuery line at cause) command before after =
 Says TooLong command before after = MayComeTo command before too_long × (after ≡ before)
 Says Usage command before after = ⊥
 
--- the words spell no command
-abbrev pub SpellsNone : List Word → Type 0
-SpellsNone words = (command : Command) → ¬ IsCommand words command
+-- the words spell none of the commands that the call does
+abbrev pub SpellsNone : (Command → Type 0) → List Word → Type 0
+SpellsNone Does words = (command : Command) → Does command → ¬ IsCommand words command
 
 -- they spell one command at most
 abbrev pub SpellsOne : List Word → Type 0
 SpellsOne words = (one other : Command) → IsCommand words one → IsCommand words other → one ≡ other
 
--- the words are refused with nothing done, or they are a command, which was run
-abbrev pub Runs : Status → List Word → Seen → Seen → Type 0
-Runs status words before after = (SpellsNone words × (status ≡ Usage) × (after ≡ before))
-    ⊎ ((command : Command) × IsCommand words command × Says status command before after)
+-- the words are refused with nothing done, or they are one of the commands that the call does, which
+-- was run
+abbrev pub Runs : (Command → Type 0) → Status → List Word → Seen → Seen → Type 0
+Runs Does status words before after =
+    (SpellsNone Does words × (status ≡ Usage) × (after ≡ before))
+    ⊎ ((command : Command) × Does command × IsCommand words command
+    × Says status command before after)
 
 -- the line, if there is one, was warned: all of it, or the first of it before a warning failed
 abbrev pub Warned : Option (List ℕ) → Seen → Seen → Type 0
@@ -79,12 +82,14 @@ Warned None before after = after ≡ before
 Warned (Some line) before after =
     (after ≡ with_warning line before) ⊎ WarnedThenFailed line before after
 
--- a run of the words ends with this number: the work comes first, then the line of its status
-pub record Ends (words : List Word) (before after : Seen) (number : ℕ) : Type 0 where
+-- a run of the words by a call that does these commands ends with this number: the work comes first,
+-- then the line of its status
+pub record Ends (Does : Command → Type 0) (words : List Word) (before after : Seen) (number : ℕ)
+    : Type 0 where
   pub status : Status
   pub code : number ≡ code_of status
   pub between : Seen
-  pub runs : Runs status words before between
+  pub runs : Runs Does status words before between
   pub warned : Warned (warning_of status) between after
 
 -- ---- which status comes
@@ -99,7 +104,8 @@ IsDisturbed (bad_query line at cause) before after = Rose before.read_faults aft
 IsDisturbed too_long before after = Rose before.read_faults after.read_faults
 
 -- where no failure was counted the number is that of the outcome, or memory ran out
-abbrev pub IsExact : List Word → Seen → Seen → ℕ → Type 0
-IsExact words before after number = (command : Command) → IsCommand words command
+abbrev pub IsExact : (Command → Type 0) → List Word → Seen → Seen → ℕ → Type 0
+IsExact Does words before after number =
+    (command : Command) → Does command → IsCommand words command
     → (outcome : Outcome) → DoesComeTo command before outcome → ¬ IsDisturbed outcome before after
     → (number ≡ code_of (status_of outcome)) ⊎ (number ≡ code_of Memory)

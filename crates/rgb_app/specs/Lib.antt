@@ -1,6 +1,7 @@
 pub mod Answering
 pub mod Text
 pub mod Reordering
+pub mod Live
 pub mod Outcome
 pub mod Status
 pub mod Ends

@@ -1,5 +1,5 @@
 -- What a command comes to, as a relation to the files that are there.
-use Rattle.std.specs.Prelude.{◌≡◌, ◌⊎◌, ℕ, min, List, [], ◌∷◌, Option, Some, None, IsSomeAnd}
+use Rattle.std.specs.Prelude.{◌≡◌, ◌⊎◌, ℕ, min, List, [], ◌∷◌, map, Option, Some, None, IsSomeAnd}
 use Rattle.std.specs.FinMap.{get}
 use Rattle.rgb_base.specs.Parts.{IndexParts}
 use Rattle.rgb_host.specs.Files.{Files}
@@ -8,16 +8,33 @@ use Rattle.ciff_format.specs.Accepted.{Accepted}
 use Rattle.ciff_format.specs.Refused.{Refused}
 use Rattle.ciff_format.specs.declared.cause.Cause.{Cause}
 use Rattle.command_words.specs.Line.{Word}
-use Rattle.command_words.specs.Command.{Command, copy, report, reorder, query, make}
+use Rattle.command_words.specs.declared.reordering.Reordering.{Reordering}
+use Rattle.command_words.specs.Command.{Command, copy, report, reorder, query, make, live}
 use Rattle.query_file.specs.Queries.{Numbered, AreQueries, IsTooLong, IsFirstFault}
 use Rattle.query_file.specs.declared.error.LineCause.{LineCause}
 use Rattle.cell_claims.specs.declared.trace.KeptRound.{KeptRound}
-use Rattle.rgb_app.specs.Text.{index_line, report_text, reorder_text, query_text}
+use Rattle.rgb_app.specs.Text.{index_line, report_text, reorder_text, query_text, live_text}
 use Rattle.generated_index.specs.Generated.{generated}
 use Rattle.rgb_app.specs.Reordering.{IsReordered}
+use Rattle.rgb_app.specs.Live.{AreLive}
 use Rattle.rgb_app.specs.Summary.{IsSummary}
 use Rattle.rgb_app.specs.Answering.{AreAnswers}
 use Rattle.rgb_app.specs.declared.answers.Answer.{Answer}
+use Rattle.rgb_app.specs.declared.live_answers.LiveAnswer.{LiveAnswer}
+
+-- ---- which commands a call does
+
+-- the commands that wait for nobody: all but `live`
+abbrev pub IsPlain : Command → Type 0
+IsPlain (copy input output) = Unit {0}
+IsPlain (report input workers) = Unit {0}
+IsPlain (reorder input output options) = Unit {0}
+IsPlain (query input queries) = Unit {0}
+IsPlain (make documents output number options) = Unit {0}
+IsPlain (live input output queries options readers) = ⊥
+
+abbrev pub IsAny : Command → Type 0
+IsAny command = Unit {0}
 
 -- ---- what a command reads
 
@@ -33,6 +50,8 @@ inputs_of (report input workers) = index_file input ∷ []
 inputs_of (reorder input output options) = index_file input ∷ []
 inputs_of (query input queries) = index_file input ∷ query_file queries ∷ []
 inputs_of (make documents output number options) = []
+inputs_of (live input output queries options readers) =
+    index_file input ∷ query_file queries ∷ []
 
 -- the named file is there, and is accepted as this index
 abbrev pub Holds : Files → Word → IndexParts → Type 0
@@ -106,6 +125,23 @@ printing text = record { file = None; text = text }
 abbrev pub index_made : ℕ → ℕ → IndexParts
 index_made documents number = generated number (min documents 1000000)
 
+-- the work of `live` where its readers were answered at these versions
+pub record IsLiveWork (files : Files) (input output queries : Word) (options : Reordering)
+    (readers : ℕ) (versions : List ℕ) (work : Work) : Type 0 where
+  pub index : IndexParts
+  pub new : IndexParts
+  pub trace : List KeptRound
+  pub asked : List Numbered
+  pub answers : List LiveAnswer
+  pub finals : List LiveAnswer
+  pub holds : Holds files input index
+  pub holds_queries : HoldsQueries files queries asked
+  pub is_reordered : IsReordered options index new trace
+  pub are_live : AreLive options readers index asked answers finals
+  pub are_versions : versions ≡ map (λ answer. answer.version) answers
+  pub is_work : work
+      ≡ writing output (bytes_of new) (live_text index new trace readers answers finals)
+
 -- the work of a command whose inputs are good
 abbrev pub IsWork : Files → Command → Work → Type 0
 IsWork files (copy input output) work = (index : IndexParts) × Holds files input index
@@ -123,6 +159,9 @@ IsWork files (query input queries) work =
 IsWork files (make documents output number options) work =
     (text : List ℕ) × IsSummary options (index_made documents number) text
     × (work ≡ writing output (bytes_of (index_made documents number)) text)
+IsWork files (live input output queries options readers) work =
+    (versions : List ℕ)
+    × IsLiveWork files input output queries options readers versions work
 
 -- over these files the command comes to this
 abbrev pub ComesTo : Command → Files → Outcome → Type 0

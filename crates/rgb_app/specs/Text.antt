@@ -1,5 +1,5 @@
 -- What is printed and warned, byte by byte. Each line ends with a line feed.
-use Rattle.std.specs.Prelude.{ℕ, List, [], ◌∷◌, ◌++◌, length, codes, decimal, flat_map, slice_get, unwrap_or, option_map}
+use Rattle.std.specs.Prelude.{ℕ, List, [], ◌∷◌, ◌++◌, length, codes, decimal, flat_map, slice_get, unwrap_or, option_map, zip}
 use Rattle.std.specs.Fmt.{signed_decimal}
 use Rattle.rgb_base.specs.Parts.{IndexParts, posting_count}
 use Rattle.cell_claims.specs.declared.trace.KeptRound.{KeptRound}
@@ -11,6 +11,7 @@ use Rattle.query_file.specs.declared.error.LineCause.TheVariants.{NotText, NoQue
 use Rattle.gap_report.specs.declared.costs.Costs.{Costs}
 use Rattle.gap_report.specs.Costs.{costs_of}
 use Rattle.rgb_app.specs.declared.answers.Answer.{Answer}
+use Rattle.rgb_app.specs.declared.live_answers.LiveAnswer.{LiveAnswer}
 
 abbrev pub line_of : List ℕ → List ℕ
 line_of text = text ++ 10 ∷ []
@@ -90,6 +91,44 @@ answer_text index answer =
 -- the answers to the queries of a file
 abbrev pub query_text : IndexParts → List Answer → List ℕ
 query_text index answers = flat_map (answer_text index) answers
+
+-- how many readers asked
+abbrev pub readers_line : ℕ → List ℕ
+readers_line readers = line_of (codes "readers " ++ decimal readers)
+
+-- the number of a document at a version, and the name of that document of the index
+abbrev pub renumbered_words : IndexParts → ℕ × ℕ → List ℕ
+renumbered_words index (id, original) =
+    decimal id ++ codes " "
+    ++ unwrap_or (option_map (λ document. document.name) (slice_get index.documents original)) []
+
+-- a line for each of these numbers, beside which stands the document that has it
+abbrev pub renumbered_lines : IndexParts → List (ℕ × ℕ) → List ℕ
+renumbered_lines index pairs = flat_map (λ pair. line_of (renumbered_words index pair)) pairs
+
+-- at which version a query was answered, and how many documents it means
+abbrev pub block_words : List ℕ → ℕ → ℕ → ℕ → List ℕ
+block_words word line version count =
+    word ++ codes " " ++ decimal line ++ codes " version " ++ decimal version ++ codes " matches "
+    ++ decimal count
+
+-- these, and a line for each of the documents by its number at that version
+abbrev pub block_text : List ℕ → IndexParts → LiveAnswer → List ℕ
+block_text word index answer =
+    line_of (block_words word answer.line answer.version (length answer.ids))
+    ++ renumbered_lines index (zip answer.ids answer.originals)
+
+abbrev pub blocks : List ℕ → IndexParts → List LiveAnswer → List ℕ
+blocks word index answers = flat_map (block_text word index) answers
+
+-- the text of the reordering, how many readers asked, what they were answered, and the answers at the
+-- last version
+abbrev pub live_text : IndexParts → IndexParts → List KeptRound → ℕ → List LiveAnswer
+    → List LiveAnswer → List ℕ
+live_text index new rounds readers answers finals =
+    reorder_text index new rounds
+    ++ (readers_line readers ++ (blocks (codes "live") index answers
+    ++ blocks (codes "final") index finals))
 
 -- ---- what is warned
 

@@ -91,7 +91,7 @@ fn query_line(line: u32, count: usize) -> QueryLine
 }
 
 /// The number of a document, and the space behind it.
-fn head_of(doc: u32) -> Head
+pub(crate) fn head_of(doc: u32) -> Head
     ensures { result.bytes ≡ decimal doc ++ codes " " }
 {
     let mut digits = Buffer::new();

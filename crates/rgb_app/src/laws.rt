@@ -1,5 +1,5 @@
 //! Laws of what commands come to. Each call does nothing.
-ghost use Rattle.rgb_app.specs.Laws.{OneOutcome, SomeOutcome};
+ghost use Rattle.rgb_app.specs.Laws.{OneOutcome, AlikeOutcomes, VersionsTellTheWork, SomeOutcome};
 
 use bisection::laws::{bisection_is_one, each_document_once, numbering_of_is_there};
 use bool_query::answer_laws::{answer_is_one, answers_are_renumbered, store_answers_as_the_index};
@@ -8,10 +8,14 @@ use forward_index::laws::{forward_is_one, start_by_name_is_one};
 use generated_index::laws::generated_is_index;
 use postings_rewrite::laws::renumbering_is_one;
 use query_file::laws::{every_file_has_verdict, queries_are_one};
+use rgb_base::laws::numbers_undo_the_order;
 
-/// A command over files of bytes comes to exactly one outcome.
+/// A command over files of bytes comes to exactly one outcome. That of `live` isn't fixed before its
+/// versions are, but for the file that is written.
 pub fn exactly_one_outcome()
     ensures one { OneOutcome }
+    ensures alike { AlikeOutcomes }
+    ensures versions { VersionsTellTheWork }
     ensures some { SomeOutcome }
 {
     file_is_one_index();
@@ -30,4 +34,5 @@ pub fn exactly_one_outcome()
     each_document_once();
     numbering_of_is_there();
     renumbering_is_one();
+    numbers_undo_the_order();
 }

@@ -3,6 +3,7 @@
 
 mod answers;
 pub mod laws;
+mod live_answers;
 mod printing;
 mod reordering;
 mod run;

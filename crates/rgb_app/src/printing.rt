@@ -4,7 +4,9 @@ ghost use Rattle.std.specs.Prelude.{◌≡◌, ◌+◌, ◌≤◌, ◌<◌, [], 
 ghost use Rattle.rgb_host.specs.Seen.{with_print, PrintedThenFailed};
 ghost use Rattle.rgb_app.specs.Text.{line_of, round_words, round_lines};
 ghost use Rattle.rgb_app.specs.Printing.{Adds};
+ghost use Rattle.rgb_app.specs.Prepared.{text_of};
 
+use crate::reordering::Reordered;
 use arrayvec::ArrayString;
 use bisection::KeptRound;
 use itoa::Buffer;
@@ -85,23 +87,48 @@ fn send_rounds<H: Host>(rounds: &[KeptRound], held: &mut Piece, host: &mut H) ->
     Ok(())
 }
 
-/// Prints a text that has the lines of kept rounds between its first and its last lines. It takes
-/// no memory.
-pub(crate) fn print_rounds<H: Host>(
-    host: &mut H,
+/// Sends a text on its way that has the lines of kept rounds between its first and its last lines.
+fn send_parts<H: Host>(
     first: &str,
     rounds: &[KeptRound],
     last: &str,
+    held: &mut Piece,
+    host: &mut H,
 ) -> Result<(), Failed>
-    ensures ok { OnOk result (H.seen host.new
-        ≡ with_print (first.now ++ (round_lines rounds.now ++ last.now)) (H.seen host.old)) }
+    ensures ok { OnOk result (Adds (first.now ++ (round_lines rounds.now ++ last.now)) held.old.bytes
+        held.new.bytes (H.seen host.old) (H.seen host.new)) }
     ensures fault { OnErr result
-        (PrintedThenFailed (first.now ++ (round_lines rounds.now ++ last.now))
+        (PrintedThenFailed (held.old.bytes ++ (first.now ++ (round_lines rounds.now ++ last.now)))
         (H.seen host.old) (H.seen host.new)) }
 {
+    send(first, held, host)?;
+    send_rounds(rounds, held, host)?;
+    send(last, held, host)
+}
+
+/// Sends the text of a reordering on its way.
+pub(crate) fn send_reordering<H: Host>(
+    work: &Reordered,
+    held: &mut Piece,
+    host: &mut H,
+) -> Result<(), Failed>
+    ensures ok { OnOk result (Adds (text_of work.now) held.old.bytes held.new.bytes
+        (H.seen host.old) (H.seen host.new)) }
+    ensures fault { OnErr result (PrintedThenFailed (held.old.bytes ++ text_of work.now)
+        (H.seen host.old) (H.seen host.new)) }
+{
+    let rounds = work.rounds.as_slice();
+    send_parts(&work.first, rounds, &work.last, held, host)
+}
+
+/// Prints the text of a reordering. It takes no memory.
+pub(crate) fn print_reordering<H: Host>(host: &mut H, work: &Reordered) -> Result<(), Failed>
+    ensures ok { OnOk result
+        (H.seen host.new ≡ with_print (text_of work.now) (H.seen host.old)) }
+    ensures fault { OnErr result
+        (PrintedThenFailed (text_of work.now) (H.seen host.old) (H.seen host.new)) }
+{
     let mut held = Piece::new();
-    send(first, &mut held, host)?;
-    send_rounds(rounds, &mut held, host)?;
-    send(last, &mut held, host)?;
+    send_reordering(work, &mut held, host)?;
     flush(&mut held, host)
 }

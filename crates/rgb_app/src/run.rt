@@ -6,13 +6,13 @@ ghost use Rattle.bisection.specs.Progress.{AreOptions};
 ghost use Rattle.command_words.specs.Command.{copy, report, reorder, query, make, texts_of};
 ghost use Rattle.rgb_app.specs.Reordering.{options_of};
 ghost use Rattle.rgb_app.specs.Prepared.{text_of};
-ghost use Rattle.rgb_app.specs.Outcome.{writing, printing};
+ghost use Rattle.rgb_app.specs.Outcome.{writing, printing, IsPlain};
 ghost use Rattle.rgb_app.specs.Status.{code_of, warning_of};
 ghost use Rattle.rgb_app.specs.Ends.{delivered, IsCutOff, Says, SpellsNone, SpellsOne, Runs, Warned, Ends, IsExact};
 
 use crate::answers::{answers_to, print_answers};
 use crate::laws::exactly_one_outcome;
-use crate::printing::print_rounds;
+use crate::printing::print_reordering;
 use crate::reordering::{Reordered, prepare, summary};
 use crate::status::Status;
 use crate::text::{index_line, report_text};
@@ -65,7 +65,7 @@ fn deliver_reordered<H: Host>(host: &mut H, name: &str, work: &Reordered) -> Res
         (H.seen host.old) (H.seen host.new)) }
 {
     store(host, name, &work.new)?;
-    print_rounds(host, &work.first, work.rounds.as_slice(), &work.last)?;
+    print_reordering(host, work)?;
     Ok(())
 }
 
@@ -183,9 +183,9 @@ fn end<H: Host>(host: &mut H, status: Status) -> u8
     status.code()
 }
 
-/// Does the command that the words spell, and says how it ended.
+/// Does the plain command that the words spell, and says how it ended.
 fn work<R: Threads + Sync, H: Host>(rt: &R, alloc: Global, words: &[String], host: &mut H) -> Status
-    ensures runs { Runs result (texts_of words.now) (H.seen host.old) (H.seen host.new) }
+    ensures runs { Runs IsPlain result (texts_of words.now) (H.seen host.old) (H.seen host.new) }
     ensures one { SpellsOne (texts_of words.now) }
 {
     let Some(command) = command_of(words) else {
@@ -206,6 +206,7 @@ fn work<R: Threads + Sync, H: Host>(rt: &R, alloc: Global, words: &[String], hos
             number,
             options,
         } => make(rt, alloc, host, documents, output, number, options),
+        Command::Live { .. } => return Status::Usage,
     };
     match done {
         Ok(()) => Status::Done,
@@ -213,17 +214,17 @@ fn work<R: Threads + Sync, H: Host>(rt: &R, alloc: Global, words: &[String], hos
     }
 }
 
-/// Does the command that the words spell, and answers the status that the program ends with. `rt`
-/// makes the threads of commands that have workers.
+/// Does the command that the words spell, but for `live`, which it refuses, and answers the status that
+/// the program ends with. It always returns. `rt` makes the threads of commands that have workers.
 pub fn run_plain<R: Threads + Sync, H: Host>(
     rt: &R,
     alloc: Global,
     words: &[String],
     host: &mut H,
 ) -> u8
-    ensures ends { Ends (texts_of words.now) (H.seen host.old) (H.seen host.new) result }
-    ensures usage { (result ≡ 2) ↔ SpellsNone (texts_of words.now) }
-    ensures exact { IsExact (texts_of words.now) (H.seen host.old) (H.seen host.new) result }
+    ensures ends { Ends IsPlain (texts_of words.now) (H.seen host.old) (H.seen host.new) result }
+    ensures usage { (result ≡ 2) ↔ SpellsNone IsPlain (texts_of words.now) }
+    ensures exact { IsExact IsPlain (texts_of words.now) (H.seen host.old) (H.seen host.new) result }
 {
     exactly_one_outcome();
     let status = work(rt, alloc, words, host);
@@ -263,10 +264,10 @@ pub fn run_words<R: Threads + Sync, H: Host>(
     host: &mut H,
 ) -> u8
     ensures ends { IfOk words (λ words.
-        Ends (texts_of words.items) (H.seen host.old) (H.seen host.new) result) }
+        Ends IsPlain (texts_of words.items) (H.seen host.old) (H.seen host.new) result) }
     ensures exact { IfOk words (λ words.
-        IsExact (texts_of words.items) (H.seen host.old) (H.seen host.new) result) }
-    ensures usage { IfOk words (λ words. (result ≡ 2) ↔ SpellsNone (texts_of words.items)) }
+        IsExact IsPlain (texts_of words.items) (H.seen host.old) (H.seen host.new) result) }
+    ensures usage { IfOk words (λ words. (result ≡ 2) ↔ SpellsNone IsPlain (texts_of words.items)) }
     ensures not_text { words ≡ Err WordsFault.NotText
         → (result ≡ 2) × Warned (warning_of Status.Usage) (H.seen host.old) (H.seen host.new) }
     ensures memory { words ≡ Err WordsFault.OutOfMemory

@@ -2,7 +2,7 @@
 use rgb_runs::{ALL_WELL, ONE, Row, is_met};
 use std::test::Fail;
 
-const ROWS: [&str; 14] = [
+const ROWS: [&str; 16] = [
     "",
     "Copy in out",
     "copy in",
@@ -17,6 +17,9 @@ const ROWS: [&str; 14] = [
     "report in --workers 65",
     "report in --workers 1 --workers 1",
     "report in --workers",
+    // What only the call that may wait does.
+    "live in out queries",
+    "live in out queries --readers 1",
 ];
 
 fn refused(words: &str) -> Row<'_> {
