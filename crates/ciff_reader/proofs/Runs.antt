@@ -51,6 +51,13 @@ postings_push documents postings posting h above below = record {
 one_more : (room : List Posting) (count : ℕ) (posting : Posting) → count < length room → take (count + 1) (slice_set room count posting) ≡ take count room ++ posting ∷ []
 one_more room count posting lt = let next : count + 1 ≡ suc count = omega arith in rw next (take-suc-set room count posting lt)
 
+-- the gaps of postings that were all good and have room
+abbrev pub good_gaps : ℕ → ℕ → Gaps
+good_gaps least document = record { least = least; document = document; are_good = true; are_few = true }
+
+pub are_good_gaps : (gaps : Gaps) → IsTrue gaps.are_good → IsTrue gaps.are_few → gaps ≡ good_gaps gaps.least gaps.document
+are_good_gaps gaps good few = rw (good, few) refl
+
 -- what is known of the postings in the room
 pub record AreKept (documents : ℕ) (gaps : Gaps) (postings : List Posting) : Type 0 where
   pub rising : IsPostings documents postings
@@ -87,15 +94,15 @@ run_begins message kept gaps building reads =
     subst (λ (ps : List Posting). ReadsList message kept gaps (record building { postings = ps })) (sym (append-nil building.postings)) reads
 
 pub run_goes_on : FieldIsAdded → TypesGrow → LaterWins → TextsGrow → EachIsAdded → SumsGrow → SumGrows → GapsGrow
-    → (message rest : List ℕ) (at used : ℕ) (posting : PostingFields) (kept : ListFields) (gaps : Gaps) (doc : ℕ) (tf : ℤ) (room : List Posting) (count : ℕ) (building : Building)
-    → count < length room → rest ≡ drop at message → StartsWithPosting rest posting used → IsTrue gaps.are_good → IsTrue gaps.are_few
+    → (message rest : List ℕ) (at used end : ℕ) (posting : PostingFields) (kept : ListFields) (gaps : Gaps) (doc : ℕ) (tf : ℤ) (room : List Posting) (count : ℕ) (building : Building)
+    → count < length room → rest ≡ drop at message → StartsWithPosting rest posting used → at + used ≡ end → IsTrue gaps.are_good → IsTrue gaps.are_few
     → pos gaps.least ≤ℤ posting.gap → pos doc ≡ pos gaps.document +ℤ posting.gap → doc < building.documents → tf ≡ posting.tf
     → ReadsList (take at message) kept gaps (with_postings building (take count room))
-    → ReadsList (take (at + used) message) kept (record { least = 1; document = doc; are_good = true; are_few = true })
+    → ReadsList (take end message) kept (good_gaps 1 doc)
     (with_postings building (take (count + 1) (slice_set room count (record { doc = doc; tf = tf }))))
-run_goes_on added types wins texts each sums sum grow message rest at used posting kept gaps doc tf room count building lt behind starts good few low is high tf_is reads =
+run_goes_on added types wins texts each sums sum grow message rest at used end posting kept gaps doc tf room count building lt behind starts ends good few low is high tf_is reads =
     let one : Posting = record { doc = doc; tf = tf } in
-    let next : Gaps = record { least = 1; document = doc; are_good = true; are_few = true } in
+    let next = good_gaps 1 doc in
     let postings = take count room in
     let before = with_postings building postings in
     let stands : building.postings ++ take (count + 1) (slice_set room count one) ≡ (building.postings ++ postings) ++ one ∷ [] =
@@ -104,5 +111,6 @@ run_goes_on added types wins texts each sums sum grow message rest at used posti
     pushed sums sum grow rows row gaps doc tf true before (with_posting before one) good
     (subst (λ (gap : ℤ). pos gaps.least ≤ℤ gap) says.gap low) (is ∙ ap (λ (gap : ℤ). pos gaps.document +ℤ gap) says.gap) high (tf_is ∙ says.tf)
     few (λ _. refl) (λ isnt. absurd (isnt refl)) so_far in
-    subst (λ (ps : List Posting). ReadsList (take (at + used) message) kept next (record building { postings = ps })) (sym stands)
-    (posting_goes_on added types wins texts each message rest at used posting kept gaps next before (with_posting before one) behind starts step reads)
+    subst (λ (n : ℕ). ReadsList (take n message) kept next (with_postings building (take (count + 1) (slice_set room count one)))) ends
+    (subst (λ (ps : List Posting). ReadsList (take (at + used) message) kept next (record building { postings = ps })) (sym stands)
+    (posting_goes_on added types wins texts each message rest at used posting kept gaps next before (with_posting before one) behind starts step reads))

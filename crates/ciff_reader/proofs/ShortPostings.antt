@@ -183,13 +183,13 @@ pub record Begins (low middle high value len : ℕ) : Type 0 where
   pub one : low < 128 → (value ≡ low) × (len ≡ 1)
   pub two : 128 ≤ low → middle < 128 → (value ≡ low - 128 + middle * 128) × (len ≡ 2)
   pub three : 128 ≤ low → 128 ≤ middle → high < 128 → (value ≡ low - 128 + middle * 128 - 16384 + high * 16384) × (len ≡ 3)
-  pub more : 128 ≤ low → 128 ≤ middle → 128 ≤ high → 256 ≤ len
+  pub more : 128 ≤ low → 128 ≤ middle → high < 128
 
-begins_read : (text : List ℕ) (value len : ℕ) → 3 ≤ length text → get_or text 0 0 < 256 → get_or text 1 0 < 256 → Begins (get_or text 0 0) (get_or text 1 0) (get_or text 2 0) value len → len < 256 → Reads text value len
-begins_read [] value len some low middle begins ends = absurd (omega arith)
-begins_read (a ∷ []) value len some low middle begins ends = absurd (omega arith)
-begins_read (a ∷ b ∷ []) value len some low middle begins ends = absurd (omega arith)
-begins_read (a ∷ b ∷ h ∷ rest) value len some low middle begins ends =
+begins_read : (text : List ℕ) (value len : ℕ) → 3 ≤ length text → get_or text 0 0 < 256 → get_or text 1 0 < 256 → Begins (get_or text 0 0) (get_or text 1 0) (get_or text 2 0) value len → Reads text value len
+begins_read [] value len some low middle begins = absurd (omega arith)
+begins_read (a ∷ []) value len some low middle begins = absurd (omega arith)
+begins_read (a ∷ b ∷ []) value len some low middle begins = absurd (omega arith)
+begins_read (a ∷ b ∷ h ∷ rest) value len some low middle begins =
     let text = a ∷ b ∷ h ∷ rest in
     elim (cases_lt a 128) [
       | inl end ↦ let is = begins.one end in subst (Reads text value) (sym is.1) (reads_one text value (omega arith) is.0 (omega (arith, is.0, end)))
@@ -198,18 +198,18 @@ begins_read (a ∷ b ∷ h ∷ rest) value len some low middle begins ends =
         | inr on' ↦ elim (cases_lt h 128) [
           | inl end ↦ let is = begins.three on on' end in
               subst (Reads text value) (sym is.1) (reads_three text (b ∷ h ∷ rest) (h ∷ rest) value refl refl (omega arith) low on middle on' end is.0)
-          | inr on'' ↦ absurd (omega (arith, ends, begins.more on on' on''))
+          | inr on'' ↦ absurd (omega (arith, begins.more on on', on''))
         ]
       ]
     ]
 
-few_bytes : (low middle high value len : ℕ) → Begins low middle high value len → len < 256 → len ≤ 3
-few_bytes low middle high value len begins ends =
+few_bytes : (low middle high value len : ℕ) → Begins low middle high value len → len ≤ 3
+few_bytes low middle high value len begins =
     elim (cases_lt low 128) [
       | inl end ↦ omega (arith, (begins.one end).1)
       | inr on ↦ elim (cases_lt middle 128) [
         | inl end ↦ omega (arith, (begins.two on end).1)
-        | inr on' ↦ elim (cases_lt high 128) [ inl end ↦ omega (arith, (begins.three on on' end).1) | inr on'' ↦ absurd (omega (arith, ends, begins.more on on' on'')) ]
+        | inr on' ↦ elim (cases_lt high 128) [ inl end ↦ omega (arith, (begins.three on on' end).1) | inr on'' ↦ absurd (omega (arith, begins.more on on', on'')) ]
       ]
     ]
 
@@ -217,21 +217,21 @@ byte_behind : (bytes : List ℕ) (n k place : ℕ) → place ≡ 2 + (n + k) →
 byte_behind bytes n k place is = get_or-drop n (drop 2 bytes) k 0 ∙ get_or-drop 2 bytes (n + k) 0 ∙ ap (λ (i : ℕ). get_or bytes i 0) (sym is)
 
 pub eight_start : (bytes : List ℕ) (gap len size tf : ℕ) (kept : PostingFields) → 8 ≤ length bytes → get_or bytes 3 0 < 256 → get_or bytes 4 0 < 256
-    → get_or bytes 0 0 ≡ 34 → get_or bytes 1 0 ≡ size → get_or bytes 2 0 ≡ 8 → Begins (get_or bytes 3 0) (get_or bytes 4 0) (get_or bytes 5 0) gap len → size ≡ len + 3 → size < 256
+    → get_or bytes 0 0 ≡ 34 → get_or bytes 1 0 ≡ size → get_or bytes 2 0 ≡ 8 → Begins (get_or bytes 3 0) (get_or bytes 4 0) (get_or bytes 5 0) gap len → size ≡ len + 3
     → get_or bytes size 0 ≡ 16 → get_or bytes (size + 1) 0 ≡ tf → tf < 128
     → kept.gap ≡ cast_signed w32 (gap % 2 ^ 32) → kept.tf ≡ cast_signed w32 (tf % 2 ^ 32)
     → StartsWithPosting bytes kept (size + 2)
-eight_start [] gap len size tf kept some low middle tag size_is first begins size_of ends second tf_is tf_small gap_says tf_says = absurd (omega arith)
-eight_start (t ∷ []) gap len size tf kept some low middle tag size_is first begins size_of ends second tf_is tf_small gap_says tf_says = absurd (omega arith)
-eight_start (t ∷ s ∷ []) gap len size tf kept some low middle tag size_is first begins size_of ends second tf_is tf_small gap_says tf_says = absurd (omega arith)
-eight_start (t ∷ s ∷ f ∷ rest) gap len size tf kept some low middle tag size_is first begins size_of ends second tf_is tf_small gap_says tf_says =
+eight_start [] gap len size tf kept some low middle tag size_is first begins size_of second tf_is tf_small gap_says tf_says = absurd (omega arith)
+eight_start (t ∷ []) gap len size tf kept some low middle tag size_is first begins size_of second tf_is tf_small gap_says tf_says = absurd (omega arith)
+eight_start (t ∷ s ∷ []) gap len size tf kept some low middle tag size_is first begins size_of second tf_is tf_small gap_says tf_says = absurd (omega arith)
+eight_start (t ∷ s ∷ f ∷ rest) gap len size tf kept some low middle tag size_is first begins size_of second tf_is tf_small gap_says tf_says =
     let bytes = t ∷ s ∷ f ∷ rest in
     let content = f ∷ rest in
     let behind = drop (1 + len) content in
-    let few : len ≤ 3 = few_bytes (get_or rest 0 0) (get_or rest 1 0) (get_or rest 2 0) gap len begins (omega (arith, size_of, ends)) in
+    let few : len ≤ 3 = few_bytes (get_or rest 0 0) (get_or rest 1 0) (get_or rest 2 0) gap len begins in
     let long : length behind ≡ length content - (1 + len) = length-drop (1 + len) content in
     let last : tf ≡ get_or (drop 1 behind) 0 0 = sym (get_or-drop 1 behind 0 0 ∙ byte_behind bytes (1 + len) 1 (size + 1) (omega (arith, size_of)) ∙ tf_is) in
-    let one = number_spelt content 8 gap len (omega arith) (omega arith) refl (omega arith) first (begins_read rest gap len (omega (arith, some)) low middle begins (omega (arith, size_of, ends))) in
+    let one = number_spelt content 8 gap len (omega arith) (omega arith) refl (omega arith) first (begins_read rest gap len (omega (arith, some)) low middle begins) in
     let two = number_spelt behind 16 tf 1 (omega arith) (omega arith) refl (omega (arith, long, few, some)) (byte_behind bytes (1 + len) 0 size (omega (arith, size_of)) ∙ second)
     (reads_one (drop 1 behind) tf (omega (arith, long, few, some, length-drop 1 behind)) last tf_small) in
     let used : 2 + (1 + len + 2) ≡ size + 2 = omega (arith, size_of) in

@@ -48,35 +48,36 @@ pub(crate) fn read_run(
     fields_grow();
     field_after_field();
     gaps_grow();
-    let mut run = Run {
-        gaps,
-        count: 0,
-        end: start,
-    };
-    'postings: while run.count < room.len() {
-        let Some((posting, used)) = posting_in_eight(&message[run.end..]) else {
-            return run;
+    let mut count = 0;
+    let mut least = gaps.least;
+    let mut document = gaps.document;
+    let mut rest = &message[start..];
+    'postings: while count < room.len() {
+        let Some((posting, used)) = posting_in_eight(rest) else {
+            break 'postings;
         };
         let gap = i64::from(posting.gap);
-        let sum = i64::from(run.gaps.document) + gap;
-        if gap < i64::from(run.gaps.least) || i64::from(documents) <= sum {
-            return run;
+        let sum = i64::from(document) + gap;
+        if gap < i64::from(least) || i64::from(documents) <= sum {
+            break 'postings;
         }
-        let doc = sum as u32;
-        room[run.count] = Posting {
-            doc,
+        document = sum as u32;
+        room[count] = Posting {
+            doc: document,
             tf: posting.tf,
         };
-        run = Run {
-            gaps: Gaps {
-                least: 1,
-                document: doc,
-                are_good: true,
-                are_few: true,
-            },
-            count: run.count + 1,
-            end: run.end + used,
-        };
+        least = 1;
+        count += 1;
+        rest = &rest[used..];
     }
-    run
+    Run {
+        gaps: Gaps {
+            least,
+            document,
+            are_good: true,
+            are_few: true,
+        },
+        count,
+        end: message.len() - rest.len(),
+    }
 }

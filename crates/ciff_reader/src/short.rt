@@ -31,7 +31,7 @@ pub(crate) fn short_posting(bytes: &[u8]) -> Option<(PostingFields, usize)>
 }
 
 /// A short posting within eight bytes whose frequency takes one. Gaps of one, two and three bytes come
-/// mixed, so no branch hangs on how many a gap has.
+/// mixed, so no branch tells one from two.
 #[inline]
 pub(crate) fn posting_in_eight(bytes: &[u8]) -> Option<(PostingFields, usize)>
     ensures posting { IfSome result (λ t. StartsWithPosting bytes.now t.0 t.1) }
@@ -39,7 +39,9 @@ pub(crate) fn posting_in_eight(bytes: &[u8]) -> Option<(PostingFields, usize)>
     let [POSTING, size, GAP, low, middle, high, _, _, ..] = bytes else {
         return None;
     };
-    let (gap, len) = gap_of(*low, *middle, *high);
+    let Some((gap, len)) = gap_of(*low, *middle, *high) else {
+        return None;
+    };
     let end = usize::from(*size);
     if end != len + 3 {
         return None;
@@ -55,26 +57,29 @@ pub(crate) fn posting_in_eight(bytes: &[u8]) -> Option<(PostingFields, usize)>
     Some((posting, end + 2))
 }
 
-/// The varint that these bytes begin with, and how many of them it takes: 256 or more where it has
-/// more than three, which no length of one byte says.
+/// The varint that these bytes begin with, and how many of them it takes, where it has no more. One
+/// and two bytes go one way, since they come mixed.
 #[inline]
-fn gap_of(low: u8, middle: u8, high: u8) -> (u32, usize)
-    ensures one { low < 128 → (result.0 ≡ low) × (result.1 ≡ 1) }
+fn gap_of(low: u8, middle: u8, high: u8) -> Option<(u32, usize)>
+    ensures one { low < 128 → IfSome result (λ t. (t.0 ≡ low) × (t.1 ≡ 1)) }
     ensures two { 128 ≤ low → middle < 128
-        → (result.0 ≡ low - 128 + middle * 128) × (result.1 ≡ 2) }
-    ensures three { 128 ≤ low → 128 ≤ middle → high < 128
-        → (result.0 ≡ low - 128 + middle * 128 - 16384 + high * 16384) × (result.1 ≡ 3) }
-    ensures more { 128 ≤ low → 128 ≤ middle → 128 ≤ high → 256 ≤ result.1 }
-    ensures most { result.1 ≤ 259 }
+        → IfSome result (λ t. (t.0 ≡ low - 128 + middle * 128) × (t.1 ≡ 2)) }
+    ensures three { 128 ≤ low → 128 ≤ middle → high < 128 → IfSome result (λ t.
+        (t.0 ≡ low - 128 + middle * 128 - 16384 + high * 16384) × (t.1 ≡ 3)) }
+    ensures more { 128 ≤ low → 128 ≤ middle → IfSome result (λ t. high < 128) }
+    ensures most { IfSome result (λ t. t.1 ≤ 3) }
 {
-    let (low, middle, high) = (u32::from(low), u32::from(middle), u32::from(high));
+    let (low, middle) = (u32::from(low), u32::from(middle));
     let second = low / 128;
     let third = where_set(second, middle / 128);
-    let fourth = where_set(third, high / 128);
-    let value = low % 128
-        + where_set(second, middle % 128) * 128
-        + where_set(third, high % 128) * 16384;
-    (value, (1 + second + third + fourth * 256) as usize)
+    let value = low % 128 + where_set(second, middle % 128) * 128;
+    if third == 0 {
+        return Some((value, (1 + second) as usize));
+    }
+    if high >= 128 {
+        return None;
+    }
+    Some((value + u32::from(high) * 16384, 3))
 }
 
 /// The number where the bit is 1, and 0 where it is 0.

@@ -11,7 +11,8 @@ fn floor_log(number: u32) -> u32
     ensures same { result ≡ floor_log number }
     ensures most { result < 32 }
 {
-    number.ilog2()
+    // Nothing changes, but the processor's own search for the highest bit is then good for any number.
+    number.max(1).ilog2()
 }
 
 /// Sums over gaps that were seen, from which their costs follow. A gap's exponent is the floor of
@@ -60,7 +61,8 @@ impl Tally {
             postings: self.postings + 1,
             exponents: self.exponents + u64::from(exponent),
             lengths: self.lengths + u64::from(floor_log(exponent + 1)),
-            groups: self.groups + u64::from(exponent / 7),
+            // A seventh, by a multiplication.
+            groups: self.groups + u64::from(exponent * 37 / 256),
         }
     }
 

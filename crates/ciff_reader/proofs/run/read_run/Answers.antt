@@ -1,29 +1,43 @@
-use Rattle.std.proofs.Common.{◌≡◌, ◌-◌, length, take, drop, refl, sym, subst, ◌∙◌, arith, rules}
-use Rattle.std.specs.Prelude.{FitsSigned}
+use Rattle.std.proofs.Common.{◌≡◌, ◌+◌, ◌-◌, ◌≤◌, [], length, take, drop, refl, sym, subst, ◌∙◌, ap, arith, rules}
+use Rattle.std.specs.Prelude.{FitsSigned, List, ℕ}
 use mir.Val.{SFits}
 use Rattle.std.specs.Int.{w32}
 use Rattle.std.proofs.lemmas.Int.{ints, to_z-of_z}
-use Rattle.std.proofs.lemmas.List.{take_rest, length-take, length-drop, length-set}
-use Rattle.ciff_reader.proofs.Runs.{none_kept, room_kept, run_begins, run_goes_on}
+use Rattle.std.proofs.lemmas.List.{take_rest, drop-drop, length-take, length-drop, length-set}
+use Rattle.rgb_base.specs.Building.{with_postings}
+use Rattle.ciff_reader.specs.Listing.{ReadsList}
+use Rattle.ciff_reader.proofs.Runs.{none_kept, room_kept, run_begins, run_goes_on, good_gaps, are_good_gaps}
 use Rattle.ciff_reader.proofs.run.read_run.Goals as goal
 
 pub postings-init : goal.postings-init
-postings-init c = record {
-  good = c.requires.good;
-  few = c.requires.few;
-  count = omega arith;
-  behind = omega arith;
-  within = c.requires.within;
-  kept = none_kept c.args.documents c.args.gaps;
-  read = λ kept building documents reads. run_begins _ kept c.args.gaps building reads;
-}
+postings-init c =
+    let message = c.args.message.now in
+    let start = c.args.start in
+    let rest = take (length message - start) (drop start message) in
+    let behind : rest ≡ drop start message = take_rest message start in
+    let long : length rest ≡ length message - start = omega (arith, length-take (length message - start) (drop start message), length-drop start message) in
+    let at : length message - length rest ≡ start = omega (arith, long, c.requires.within) in
+    let same = are_good_gaps c.args.gaps c.requires.good c.requires.few in
+    record {
+      count = omega arith;
+      behind = omega (arith, at);
+      within = omega (arith, long);
+      rest = behind ∙ ap (λ (n : ℕ). drop n message) (sym at);
+      least = omega arith;
+      document = omega arith;
+      kept = none_kept c.args.documents (good_gaps c.args.gaps.least c.args.gaps.document);
+      read = λ kept building documents reads.
+          subst (λ (n : ℕ). ReadsList (take n message) kept (good_gaps c.args.gaps.least c.args.gaps.document) (with_postings building [])) (sym at)
+          (run_begins _ kept (good_gaps c.args.gaps.least c.args.gaps.document) building (subst (λ gaps. ReadsList (take start message) kept gaps building) same reads));
+    }
 
 pub postings-preserved : goal.postings-preserved
 postings-preserved c =
     let message = c.args.message.now in
-    let at = c.postings.run.end in
-    let rest = take (length message - at) (drop at message) in
-    let so_far = c.postings.run.gaps in
+    let rest = c.postings.rest.now in
+    let at = length message - length rest in
+    let used = c.in-Some.used in
+    let further = take (length rest - used) (drop used rest) in
     let posting = c.in-Some.posting in
     let starts = c.in-Some.ensures.posting in
     let gap_fits : SFits w32 posting.gap = search rules in
@@ -31,16 +45,21 @@ postings-preserved c =
     let fits : FitsSigned w32 posting.tf = search rules in
     let gap : c.from-gap.result ≡ posting.gap = c.from-gap.ensures ∙ to_z-of_z w32 posting.gap gap_fits in
     let tf = to_z-of_z w32 posting.tf tf_fits in
+    let long : length further ≡ length rest - used = omega (arith, length-take (length rest - used) (drop used rest), length-drop used rest) in
+    let place : at + used ≡ length message - length further = omega (arith, long, starts.within, c.postings.invariant.within) in
+    let behind : further ≡ drop (at + used) message =
+    take_rest rest used ∙ ap (drop used) c.postings.invariant.rest ∙ drop-drop used at message in
     record {
-      good = refl;
-      few = refl;
       count = simp length-set (omega (arith, c.postings-test.true));
-      behind = omega (arith, c.postings.invariant.behind);
-      within = omega (arith, starts.within, length-take (length message - at) (drop at message), length-drop at message, c.postings.invariant.within);
-      kept = room_kept c.args.documents c.postings.run.count so_far _ c.postings.room _ c.postings-test.true c.postings.invariant.kept (omega (arith, ints, gap)) (omega (arith, ints, gap)) (subst (FitsSigned w32) (sym tf) fits) refl refl;
+      behind = omega (arith, c.postings.invariant.behind, long);
+      within = omega (arith, long, c.postings.invariant.within);
+      rest = behind ∙ ap (λ (n : ℕ). drop n message) place;
+      least = omega arith;
+      document = omega (arith, ints, gap);
+      kept = room_kept c.args.documents c.postings.count (good_gaps c.postings.least c.postings.document) _ c.postings.room _ c.postings-test.true c.postings.invariant.kept (omega (arith, ints, gap)) (omega (arith, ints, gap)) (subst (FitsSigned w32) (sym tf) fits) refl refl;
       read = λ kept building documents reads.
           run_goes_on c.field_after_field.ensures.added c.fields_grow.ensures.types c.fields_grow.ensures.held c.fields_grow.ensures.texts c.fields_grow.ensures.each c.gaps_grow.ensures.sums c.gaps_grow.ensures.sum c.gaps_grow.ensures.good
-          message rest at c.in-Some.used posting kept so_far _ _ c.postings.room c.postings.run.count building c.postings-test.true (take_rest message at) starts c.postings.invariant.good c.postings.invariant.few
+          message rest at used (length message - length further) posting kept (good_gaps c.postings.least c.postings.document) _ _ c.postings.room c.postings.count building c.postings-test.true c.postings.invariant.rest starts place refl refl
           (omega (arith, ints, gap)) (omega (arith, ints, gap)) (omega (arith, ints, gap, documents)) tf (c.postings.invariant.read kept building documents reads);
     }
 
