@@ -2,6 +2,7 @@
 #![tactic(auto)]
 
 use rgb_app::{WordsFault, run_words};
+use rgb_base::NoPace;
 use rgb_host::RealHost;
 use std::env::Env;
 use std::process::ExitCode;
@@ -19,5 +20,5 @@ fn words(rt: &(impl Env + AllocGlobal)) -> io::Result<Vec<String>> {
 fn main(rt: HostRuntime) -> ExitCode {
     let alloc = rt.alloc();
     let words = words(&rt).map_err(WordsFault::from);
-    ExitCode::from(run_words(&rt, alloc, words, &mut RealHost::new(rt)))
+    ExitCode::from(run_words(&rt, alloc, words, &mut RealHost::new(rt), &NoPace))
 }

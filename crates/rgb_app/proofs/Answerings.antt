@@ -106,7 +106,7 @@ choose P known (suc count) from = by (known from) (choose P known count (from + 
         later_all z q (inl is) high = absurd (never (subst P (sym is) q))
         later_all z q (inr more) high = rest.all z more (omega (arith, high)) q
 
-some_exactly : (P : ℕ → Type 0) (documents : ℕ) → ((z : ℕ) → Known (P z)) → ((z : ℕ) → P z → z < documents) → (ids : List ℕ) × AreExactly P ids
+pub some_exactly : (P : ℕ → Type 0) (documents : ℕ) → ((z : ℕ) → Known (P z)) → ((z : ℕ) → P z → z < documents) → (ids : List ℕ) × AreExactly P ids
 some_exactly P documents known below =
     let chosen = choose P known documents 0 in
     (chosen.ids, record { rising = increases chosen.ids chosen.up; each = λ z. ((λ c. chosen.holds z (in_of chosen.ids z c)), (λ p. contains_of chosen.ids z (chosen.all z (omega arith) (omega (arith, below z p)) p))) })

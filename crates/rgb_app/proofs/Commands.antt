@@ -27,7 +27,7 @@ use Rattle.rgb_app.specs.Text.{index_line, report_text, reorder_text, query_text
 use Rattle.rgb_app.specs.Reordering.{IsReordered}
 use Rattle.generated_index.specs.Generated.{generated}
 use Rattle.rgb_app.specs.Summary.{IsSummary}
-use Rattle.rgb_app.specs.Outcome.{Input, index_file, inputs_of, done, malformed, missing, bad_query, too_long, writing, printing, index_made, FirstStops, ComesTo}
+use Rattle.rgb_app.specs.Outcome.{Input, index_file, query_file, inputs_of, done, malformed, missing, bad_query, too_long, writing, printing, index_made, FirstStops, ComesTo}
 use Rattle.rgb_app.specs.Status.{status_of_read, status_of_queries}
 use Rattle.rgb_app.specs.Ends.{MayComeTo, delivered, IsCutOff, not_printed, Says}
 use Rattle.rgb_app.specs.declared.status.Status.TheVariants.{Done, WriteFault}
@@ -161,36 +161,39 @@ pub generated_cut : (documents : ℕ) (output : Word) (number : ℕ) (options : 
 generated_cut documents output number options index text lent before after is sums same cut =
     (writing output (bytes_of index) lent, make_work documents output number options index lent before is (subst (IsSummary options index) (sym same) sums), cut)
 
--- ---- query
+-- ---- the queries, which a command reads behind the index
 
-queries_missing : (told : Option Files) (input queries : Word) (index : IndexParts) → IfSome told (λ files. IsSomeAnd (get files input) (λ file. Accepted file index)) → IsMissing told queries
-    → IsSomeAnd told (λ files. ComesTo (query input queries) files missing)
-queries_missing None input queries index holds lacks = lacks
-queries_missing (Some files) input queries index holds lacks = inr ((index, holds), inl lacks)
+queries_missing : (told : Option Files) (command : Command) (input queries : Word) (index : IndexParts) → inputs_of command ≡ index_file input ∷ query_file queries ∷ [] → IfSome told (λ files. IsSomeAnd (get files input) (λ file. Accepted file index))
+    → IsMissing told queries → IsSomeAnd told (λ files. ComesTo command files missing)
+queries_missing None command input queries index is holds lacks = lacks
+queries_missing (Some files) command input queries index is holds lacks = subst (λ inputs. FirstStops files inputs missing) (sym is) (inr ((index, holds), inl lacks))
 
-queries_too_long : (told : Option Files) (input queries : Word) (index : IndexParts) → IfSome told (λ files. IsSomeAnd (get files input) (λ file. Accepted file index)) → IfSome told (λ files. IsSomeAnd (get files queries) IsTooLong)
-    → IfSome told (λ files. ComesTo (query input queries) files too_long)
-queries_too_long None input queries index holds long = tt
-queries_too_long (Some files) input queries index holds long = inr ((index, holds), inl long)
+queries_too_long : (told : Option Files) (command : Command) (input queries : Word) (index : IndexParts) → inputs_of command ≡ index_file input ∷ query_file queries ∷ [] → IfSome told (λ files. IsSomeAnd (get files input) (λ file. Accepted file index))
+    → IfSome told (λ files. IsSomeAnd (get files queries) IsTooLong) → IfSome told (λ files. ComesTo command files too_long)
+queries_too_long None command input queries index is holds long = tt
+queries_too_long (Some files) command input queries index is holds long = subst (λ inputs. FirstStops files inputs too_long) (sym is) (inr ((index, holds), inl long))
 
-queries_faulty : (told : Option Files) (input queries : Word) (index : IndexParts) (line at : ℕ) (cause : LineCause) → IfSome told (λ files. IsSomeAnd (get files input) (λ file. Accepted file index))
-    → IfSome told (λ files. IsSomeAnd (get files queries) (λ file. IsFirstFault file line at cause)) → IfSome told (λ files. ComesTo (query input queries) files (bad_query line at cause))
-queries_faulty None input queries index line at cause holds bad = tt
-queries_faulty (Some files) input queries index line at cause holds bad = inr ((index, holds), inl bad)
+queries_faulty : (told : Option Files) (command : Command) (input queries : Word) (index : IndexParts) (line at : ℕ) (cause : LineCause) → inputs_of command ≡ index_file input ∷ query_file queries ∷ []
+    → IfSome told (λ files. IsSomeAnd (get files input) (λ file. Accepted file index)) → IfSome told (λ files. IsSomeAnd (get files queries) (λ file. IsFirstFault file line at cause))
+    → IfSome told (λ files. ComesTo command files (bad_query line at cause))
+queries_faulty None command input queries index line at cause is holds bad = tt
+queries_faulty (Some files) command input queries index line at cause is holds bad = subst (λ inputs. FirstStops files inputs (bad_query line at cause)) (sym is) (inr ((index, holds), inl bad))
 
 -- the index is read and the queries aren't
-told_queries : (error : QueriesError) (input queries : Word) (index : IndexParts) (before after : Seen) → OfFile before input (λ file. Accepted file index) → QueriesExplain error queries before after
-    → Says (status_of_queries error) (query input queries) before after
-told_queries query_errors.Fault input queries index before after holds (inl failed) = inl failed
-told_queries query_errors.Fault input queries index before after holds (inr lacks) = inr (queries_missing before.files input queries index holds lacks.0, lacks.1)
-told_queries query_errors.OutOfMemory input queries index before after holds same = same
-told_queries query_errors.TooLong input queries index before after holds (long, same) = (queries_too_long before.files input queries index holds long, same)
-told_queries (query_errors.BadLine fault) input queries index before after holds (bad, same) = (queries_faulty before.files input queries index fault.line fault.at fault.cause holds bad, same)
+told_queries : (error : QueriesError) (command : Command) (input queries : Word) (index : IndexParts) (before after : Seen) → inputs_of command ≡ index_file input ∷ query_file queries ∷ [] → OfFile before input (λ file. Accepted file index)
+    → QueriesExplain error queries before after → Says (status_of_queries error) command before after
+told_queries query_errors.Fault command input queries index before after is holds (inl failed) = inl failed
+told_queries query_errors.Fault command input queries index before after is holds (inr lacks) = inr (queries_missing before.files command input queries index is holds lacks.0, lacks.1)
+told_queries query_errors.OutOfMemory command input queries index before after is holds same = same
+told_queries query_errors.TooLong command input queries index before after is holds (long, same) = (queries_too_long before.files command input queries index is holds long, same)
+told_queries (query_errors.BadLine fault) command input queries index before after is holds (bad, same) = (queries_faulty before.files command input queries index fault.line fault.at fault.cause is holds bad, same)
 
-pub queries_explained : (error : QueriesError) (input queries : Word) (index : IndexParts) (before read after : Seen) → OfFile before input (λ file. Accepted file index) → read ≡ before → QueriesExplain error queries read after
-    → Says (status_of_queries error) (query input queries) before after
-queries_explained error input queries index before read after holds same explains =
-    told_queries error input queries index before after holds (subst (λ (host : Seen). QueriesExplain error queries host after) same explains)
+pub queries_explained : (error : QueriesError) (command : Command) (input queries : Word) (index : IndexParts) (before read after : Seen) → inputs_of command ≡ index_file input ∷ query_file queries ∷ []
+    → OfFile before input (λ file. Accepted file index) → read ≡ before → QueriesExplain error queries read after → Says (status_of_queries error) command before after
+queries_explained error command input queries index before read after is holds same explains =
+    told_queries error command input queries index before after is holds (subst (λ (host : Seen). QueriesExplain error queries host after) same explains)
+
+-- ---- query
 
 query_comes : (told : Option Files) (input queries : Word) (index : IndexParts) (asked : List Numbered) (answers : List Answer) → IfSome told (λ files. IsSomeAnd (get files input) (λ file. Accepted file index))
     → IfSome told (λ files. IsSomeAnd (get files queries) (λ file. AreQueries file asked)) → AreAnswers index asked answers

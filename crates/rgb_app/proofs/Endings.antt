@@ -3,8 +3,8 @@ use Rattle.std.proofs.Common.{◌≡◌, ◌⊎◌, ◌↔◌, ℕ, List, Option
 use Rattle.rgb_host.specs.Files.{Files, Rose}
 use Rattle.rgb_host.specs.Seen.{Seen}
 use Rattle.command_words.specs.Line.{Word}
-use Rattle.command_words.specs.Command.{Command, IsCommand, Answers}
-use Rattle.rgb_app.specs.Outcome.{Outcome, Written, Work, done, malformed, missing, bad_query, too_long, ComesTo}
+use Rattle.command_words.specs.Command.{Command, IsCommand, Answers, SpellsOnly}
+use Rattle.rgb_app.specs.Outcome.{Outcome, Written, Work, done, malformed, missing, bad_query, too_long, ComesTo, IsPlain, IsAny}
 use Rattle.rgb_app.specs.Status.{code_of, warning_of, status_of}
 use Rattle.rgb_app.specs.Ends.{DoesComeTo, with_written, Says, SpellsNone, SpellsOne, Runs, Warned, Ends, IsDisturbed, IsExact, IsCutOff, not_created, not_written, not_printed}
 use Rattle.rgb_app.specs.Laws.{AreAlike, AlikeOutcomes}
@@ -136,3 +136,27 @@ pub exact_comes : AlikeOutcomes → (Does : Command → Type 0) (words : List Wo
 exact_comes law Does words before after number only e = λ command does spells outcome told calm.
     code_tells number e.status (status_of outcome) e.code (runs_tell law Does e.status words before e.between outcome command only e.runs does spells told
     (λ d. calm (disturbed_after outcome before e.between after (keeps_reads (warning_of e.status) e.between after e.warned) (keeps_writes (warning_of e.status) e.between after e.warned) d)))
+
+-- ---- the top call
+
+any_runs : (status : Status) (words : List Word) (before after : Seen) → ((command : Command) → IsCommand words command → IsPlain command) → Runs IsPlain status words before after → Runs IsAny status words before after
+any_runs status words before after plain (inl p) = inl ((λ command does spells. p.0 command (plain command spells) spells), p.1, p.2)
+any_runs status words before after plain (inr p) = inr (p.0, tt, p.2, p.3)
+
+-- where what is spelt is plain, a run of plain commands is one of any command
+pub any_ends : (words : List Word) (before after : Seen) (number : ℕ) → ((command : Command) → IsCommand words command → IsPlain command) → Ends IsPlain words before after number → Ends IsAny words before after number
+any_ends words before after number plain e = record {
+  status = e.status;
+  code = e.code;
+  between = e.between;
+  runs = any_runs e.status words before e.between plain e.runs;
+  warned = e.warned;
+}
+
+-- the command that is spelt was run
+pub spelt_ends : (words : List Word) (command : Command) (status : Status) (before between after : Seen) (number : ℕ) → IsCommand words command → Says status command before between → number ≡ code_of status → Warned (warning_of status) between after
+    → Ends IsAny words before after number
+spelt_ends words command status before between after number spells says code warned = record { status = status; code = code; between = between; runs = inr (command, tt, spells, says); warned = warned }
+
+pub spells_one : (words : List Word) (command : Command) → SpellsOnly words command → SpellsOne words
+spells_one words command only one other a b = only.only one a ∙ sym (only.only other b)

@@ -2,6 +2,14 @@ pub mod Delivery
 pub mod Prints
 pub mod Reorderings
 pub mod LiveOnes
+pub mod LiveThere
+pub mod Turning
+pub mod Seats
+pub mod Slabs
+pub mod Planning
+pub mod Assembly
+pub mod Merges
+pub mod Lives
 pub mod Outcomes
 pub mod Endings
 pub mod Texts

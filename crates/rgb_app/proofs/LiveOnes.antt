@@ -1,17 +1,18 @@
 -- An answer at a version is one.
 use Rattle.std.proofs.Common.{◌≡◌, ℕ, zero, suc, ◌<◌, List, [], ◌∷◌, length, map, get_or, slice_get, slice_index, Some, Contains, refl, sym, ap, subst, ◌∙◌, arith}
-use Rattle.std.specs.List.{AllPairs}
+use Rattle.std.specs.List.Sorted.{IsStrictlyIncreasing}
 use Rattle.std.proofs.lemmas.List.{ext_get_or}
 use Rattle.std.proofs.lemmas.List.FromFn.{length-range_with_len}
-use Rattle.std.proofs.lemmas.List.Kept.{AllPairs-from_increasing}
 use Rattle.std.proofs.lemmas.Grind.{get_or_default_zero}
 use Rattle.std.proofs.lemmas.Option.{same_Some, none-some}
 use Rattle.rgb_base.specs.Parts.{IndexParts, IsIndex}
 use Rattle.rgb_base.specs.Order.{new_of}
 use Rattle.rgb_base.specs.Laws.{NumbersUndoTheOrder}
 use Rattle.postings_rewrite.specs.Laws.{IsOrderOf}
-use Rattle.bool_query.specs.Tree.{Tree}
-use Rattle.bool_query.specs.AnswerLaws.{MeantIsBelow}
+use Rattle.postings_rewrite.specs.Stores.{StoredLists, list_at}
+use Rattle.bool_query.specs.Tree.{Tree, of_term}
+use Rattle.bool_query.specs.Answers.{IsMeantInStore}
+use Rattle.bool_query.specs.AnswerLaws.{MeantIsBelow, AnswerIsOne}
 use Rattle.query_file.specs.Queries.{Numbered}
 use Rattle.bisection.specs.Progress.{depth_after}
 use Rattle.command_words.specs.declared.reordering.Reordering.{Reordering}
@@ -26,6 +27,7 @@ pub record LiveLaws : Type 0 where
   pub ones : AreOne
   pub undo : NumbersUndoTheOrder
   pub below : MeantIsBelow
+  pub answer : AnswerIsOne
 
 -- ---- versions
 
@@ -42,38 +44,26 @@ version_is_order laws options index sound (suc others) numbering is =
 
 -- ---- rising numbers
 
-abbrev Rises : List ℕ → Type 0
-Rises numbers = AllPairs (λ a b. a < b) numbers
+-- a store whose one list is these numbers: a query of its term is answered by that list
+abbrev store_of : List ℕ → StoredLists
+store_of numbers = record { lists = numbers ∷ []; documents = 0 }
 
-rises_tail : (first : ℕ) (numbers : List ℕ) → Rises (first ∷ numbers) → Rises numbers
-rises_tail first numbers rising i j d order within = rising (suc i) (suc j) d (omega arith) (omega arith)
+abbrev IsStored : List ℕ → ℕ → Type 0
+IsStored numbers number = IsMeantInStore ([] ∷ []) (store_of numbers) (of_term []) number
 
-first_at : (x y : ℕ) (xs ys : List ℕ) (k m : ℕ) → Rises (x ∷ xs) → Rises (y ∷ ys) → k < length (y ∷ ys) → get_or (y ∷ ys) k x ≡ x → m < length (x ∷ xs) → get_or (x ∷ xs) m y ≡ y → x ≡ y
-first_at x y xs ys zero m x_rises y_rises k_within k_is m_within m_is = sym k_is
-first_at x y xs ys (suc k) zero x_rises y_rises k_within k_is m_within m_is = m_is
-first_at x y xs ys (suc k) (suc m) x_rises y_rises k_within k_is m_within m_is =
-    absurd (omega (arith, y_rises 0 (suc k) x (omega arith) k_within, x_rises 0 (suc m) y (omega arith) m_within, k_is, m_is))
+is_stored : (numbers : List ℕ) (number : ℕ) → Contains numbers number → IsStored numbers number
+is_stored numbers number stands = record { list = 0; named = refl; listed = stands }
 
-rest_at : (x y z : ℕ) (xs ys : List ℕ) (k m : ℕ) → x ≡ y → Rises (x ∷ xs) → k < length xs → get_or xs k z ≡ z → m < length (y ∷ ys) → get_or (y ∷ ys) m z ≡ z → Contains ys z
-rest_at x y z xs ys k zero same x_rises k_within k_is m_within m_is =
-    absurd (omega (arith, x_rises 0 (suc k) z (omega arith) (omega arith), same, k_is, m_is))
-rest_at x y z xs ys k (suc m) same x_rises k_within k_is m_within m_is = (m, omega arith, m_is)
+stands_at : (numbers : List ℕ) (number place : ℕ) → Contains (list_at (store_of numbers) place) number → Contains numbers number
+stands_at numbers number zero stands = stands
+stands_at numbers number (suc place) stands = absurd (omega (arith, stands.1))
 
-later : (x z : ℕ) (xs : List ℕ) → Contains xs z → Contains (x ∷ xs) z
-later x z xs stands = (suc stands.0, omega (arith, stands.1), stands.2)
-
-same_numbers : (xs ys : List ℕ) → Rises xs → Rises ys → ((z : ℕ) → Contains xs z → Contains ys z) → ((z : ℕ) → Contains ys z → Contains xs z) → xs ≡ ys
-same_numbers [] [] x_rises y_rises to from = refl
-same_numbers [] (y ∷ ys) x_rises y_rises to from = let stands = from y (0, omega arith, refl) in absurd (omega (arith, stands.1))
-same_numbers (x ∷ xs) [] x_rises y_rises to from = let stands = to x (0, omega arith, refl) in absurd (omega (arith, stands.1))
-same_numbers (x ∷ xs) (y ∷ ys) x_rises y_rises to from =
-    let x_stands = to x (0, omega arith, refl) in
-    let y_stands = from y (0, omega arith, refl) in
-    let first : x ≡ y = first_at x y xs ys x_stands.0 y_stands.0 x_rises y_rises x_stands.1 x_stands.2 y_stands.1 y_stands.2 in
-    let rest : xs ≡ ys = same_numbers xs ys (rises_tail x xs x_rises) (rises_tail y ys y_rises)
-    (λ z stands. let there = to z (later x z xs stands) in rest_at x y z xs ys stands.0 there.0 first x_rises stands.1 stands.2 there.1 there.2)
-    (λ z stands. let there = from z (later y z ys stands) in rest_at y x z ys xs stands.0 there.0 (sym first) y_rises stands.1 stands.2 there.1 there.2) in
-    ap (λ (z : ℕ). z ∷ xs) first ∙ ap (λ (zs : List ℕ). y ∷ zs) rest
+-- numbers that rise are told by which they are
+same_numbers : AnswerIsOne → (xs ys : List ℕ) → IsStrictlyIncreasing xs → IsStrictlyIncreasing ys → ((z : ℕ) → Contains xs z → Contains ys z) → ((z : ℕ) → Contains ys z → Contains xs z) → xs ≡ ys
+same_numbers law xs ys x_rises y_rises to from =
+    law ([] ∷ []) (store_of ys) (of_term []) xs ys
+    (record { rising = x_rises; each = λ z. ((λ stands. is_stored ys z (to z stands)), (λ has. from z (stands_at ys z has.list has.listed))) })
+    (record { rising = y_rises; each = λ z. (is_stored ys z, (λ has. stands_at ys z has.list has.listed)) })
 
 -- ---- answers under one numbering
 
@@ -128,7 +118,7 @@ one_live_answer laws options index sound query a b p q same =
     let there : IsVersion options index b.version p.numbering = subst (λ (version : ℕ). IsVersion options index version p.numbering) same p.is_version in
     let order : p.numbering ≡ q.numbering = version_is_one laws.ones options index b.version p.numbering q.numbering there q.is_version in
     let mine : IsAnswerUnder index q.numbering query.query a.ids a.originals = subst (λ (n : List ℕ). IsAnswerUnder index n query.query a.ids a.originals) order p.is_answer in
-    let ids : a.ids ≡ b.ids = same_numbers a.ids b.ids (AllPairs-from_increasing a.ids mine.rising) (AllPairs-from_increasing b.ids q.is_answer.rising)
+    let ids : a.ids ≡ b.ids = same_numbers laws.answer a.ids b.ids mine.rising q.is_answer.rising
     (has_too index q.numbering query.query a.ids a.originals b.ids b.originals mine q.is_answer) (has_too index q.numbering query.query b.ids b.originals a.ids a.originals q.is_answer mine) in
     let theirs : IsAnswerUnder index q.numbering query.query b.ids a.originals = subst (λ (ns : List ℕ). IsAnswerUnder index q.numbering query.query ns a.originals) ids mine in
     let originals : a.originals ≡ b.originals =

@@ -1,5 +1,5 @@
 -- A command over files comes to one outcome, and to none other.
-use Rattle.std.proofs.Common.{◌≡◌, ◌⊎◌, ℕ, List, [], ◌∷◌, Option, Some, None, IsSomeAnd, IfSome, refl, sym, ap, subst, ◌∙◌, inl, inr, ◌≤◌, arith, min}
+use Rattle.std.proofs.Common.{◌≡◌, ◌⊎◌, ℕ, List, [], ◌∷◌, map, Option, Some, None, IsSomeAnd, IfSome, refl, sym, ap, subst, ◌∙◌, inl, inr, ◌≤◌, arith, min}
 use Rattle.std.specs.FinMap.{get}
 use Rattle.ciff_wire.specs.Laws.{AreBytes}
 use Rattle.rgb_base.specs.Parts.{IndexParts, IsIndex}
@@ -28,6 +28,7 @@ use Rattle.rgb_app.specs.Laws.{OneOutcome, AreAlike, AlikeOutcomes, VersionsTell
 use Rattle.rgb_app.specs.Live.{AreLive}
 use Rattle.rgb_app.specs.declared.live_answers.LiveAnswer.{LiveAnswer}
 use Rattle.rgb_app.proofs.LiveOnes.{LiveLaws, live_answers_are_one, same_versions, same_last}
+use Rattle.rgb_app.proofs.LiveThere.{some_live}
 
 -- ---- the file of an input
 
@@ -359,10 +360,40 @@ some_query sound laws files input queries (good index holds) (long is) = (too_lo
 some_query sound laws files input queries (good index holds) (faulty line at cause is) = (bad_query line at cause, inr ((index, holds), inl is))
 some_query sound laws files input queries (good index holds) (no_file is) = (missing, inr ((index, holds), inl is))
 
-pub some_outcome : EveryFileIsRead → AcceptedIsIndex → GeneratedIsIndex → AreThere → EveryFileHasVerdict → AnswerLaws → SomeOutcome
-some_outcome law sound generates laws verdicts answers (copy input output) plain files bytes = some_copy files input output (reading law (get files input) (bytes input))
-some_outcome law sound generates laws verdicts answers (report input workers) plain files bytes = some_report files input workers (reading law (get files input) (bytes input))
-some_outcome law sound generates laws verdicts answers (reorder input output options) plain files bytes = some_reorder sound laws files input output options (reading law (get files input) (bytes input))
-some_outcome law sound generates laws verdicts answers (query input queries) plain files bytes = some_query sound answers files input queries (reading law (get files input) (bytes input)) (asking verdicts (get files queries))
-some_outcome law sound generates laws verdicts answers (make documents output number options) plain files bytes = some_make generates laws files documents output number options
-some_outcome law sound generates laws verdicts answers (live input output queries options readers) plain files bytes = absurd plain
+some_live_outcome : AcceptedIsIndex → AreThere → LiveLaws → (files : Files) (input output queries : Word) (options : Reordering) (readers : ℕ) → Reading (get files input) → Asking (get files queries)
+    → (outcome : Outcome) × ComesTo (live input output queries options readers) files outcome
+some_live_outcome sound laws lives files input output queries options readers (bad place cause is) asks = (malformed place cause, inl is)
+some_live_outcome sound laws lives files input output queries options readers (gone is) asks = (missing, inl is)
+some_live_outcome sound laws lives files input output queries options readers (good index holds) (asked all are) =
+    let is_index = found_is_index sound (get files input) index holds in
+    let made = some_reordering laws options index is_index in
+    let told = some_live lives laws options readers index is_index all in
+    let work = writing output (bytes_of made.new) (live_text index made.new made.trace readers told.answers told.finals) in
+    let versions = map (λ (answer : LiveAnswer). answer.version) told.answers in
+    let is : IsLiveWork files input output queries options readers versions work = record {
+      index = index;
+      new = made.new;
+      trace = made.trace;
+      asked = all;
+      answers = told.answers;
+      finals = told.finals;
+      holds = holds;
+      holds_queries = are;
+      is_reordered = made.is_reordered;
+      are_live = told.are_live;
+      are_versions = refl;
+      is_work = refl;
+    } in
+    (done work, (versions, is))
+some_live_outcome sound laws lives files input output queries options readers (good index holds) (long is) = (too_long, inr ((index, holds), inl is))
+some_live_outcome sound laws lives files input output queries options readers (good index holds) (faulty line at cause is) = (bad_query line at cause, inr ((index, holds), inl is))
+some_live_outcome sound laws lives files input output queries options readers (good index holds) (no_file is) = (missing, inr ((index, holds), inl is))
+
+pub some_outcome : EveryFileIsRead → AcceptedIsIndex → GeneratedIsIndex → AreThere → EveryFileHasVerdict → AnswerLaws → LiveLaws → SomeOutcome
+some_outcome law sound generates laws verdicts answers lives (copy input output) files bytes = some_copy files input output (reading law (get files input) (bytes input))
+some_outcome law sound generates laws verdicts answers lives (report input workers) files bytes = some_report files input workers (reading law (get files input) (bytes input))
+some_outcome law sound generates laws verdicts answers lives (reorder input output options) files bytes = some_reorder sound laws files input output options (reading law (get files input) (bytes input))
+some_outcome law sound generates laws verdicts answers lives (query input queries) files bytes = some_query sound answers files input queries (reading law (get files input) (bytes input)) (asking verdicts (get files queries))
+some_outcome law sound generates laws verdicts answers lives (make documents output number options) files bytes = some_make generates laws files documents output number options
+some_outcome law sound generates laws verdicts answers lives (live input output queries options readers) files bytes =
+    some_live_outcome sound laws lives files input output queries options readers (reading law (get files input) (bytes input)) (asking verdicts (get files queries))

@@ -1,5 +1,5 @@
 -- The text of a reordering, of its parts.
-use Rattle.std.proofs.Common.{◌≡◌, ℕ, List, ◌++◌, length, codes, decimal, Result, Ok, Err, IfOk, string_bytes, ap, ◌∙◌}
+use Rattle.std.proofs.Common.{◌≡◌, ℕ, List, ◌++◌, length, codes, decimal, Result, Ok, Err, IfOk, string_bytes, ap, sym, subst, ◌∙◌}
 use Rattle.rgb_base.specs.Parts.{IndexParts}
 use Rattle.cell_claims.specs.declared.trace.KeptRound.{KeptRound}
 use Rattle.gap_report.specs.declared.costs.Costs.{Costs}
@@ -45,3 +45,15 @@ summary_is options index new trace kept before after text is kept_is before_is a
       ∙ ap (λ (c : Costs). index_line index ++ (kept_line trace ++ cost_lines c after)) before_is
       ∙ ap (λ (c : Costs). index_line index ++ (kept_line trace ++ cost_lines (costs_of index) c)) after_is;
 }
+
+-- what is told of the new index and of its rounds
+pub described_is : {E : Type 0} (options : Reordering) (index new : IndexParts) (rounds : List KeptRound) (r : Result Reordered E) → IfOk r (λ work. work.new ≡ new) → IfOk r (λ work. work.rounds ≡ rounds)
+    → IsReordered options index new rounds → IfOk r (λ work. IsReordered options index work.new work.rounds)
+described_is options index new rounds (Ok work) p q is =
+    subst (λ (n : IndexParts). IsReordered options index n work.rounds) (sym p) (subst (λ (t : List KeptRound). IsReordered options index new t) (sym q) is)
+described_is options index new rounds (Err e) p q is = tt
+
+pub described_text : {E : Type 0} (index new : IndexParts) (rounds : List KeptRound) (r : Result Reordered E) → IfOk r (λ work. work.new ≡ new) → IfOk r (λ work. work.rounds ≡ rounds)
+    → IfOk r (λ work. text_of work ≡ reorder_text index new rounds) → IfOk r (λ work. text_of work ≡ reorder_text index work.new work.rounds)
+described_text index new rounds (Ok work) p q is = is ∙ ap (λ (n : IndexParts). reorder_text index n rounds) (sym p) ∙ ap (λ (t : List KeptRound). reorder_text index work.new t) (sym q)
+described_text index new rounds (Err e) p q is = tt

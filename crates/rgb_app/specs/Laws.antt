@@ -1,5 +1,9 @@
 -- What follows of outcomes, each the contract of a call of its own.
 use Rattle.std.specs.Prelude.{◌≡◌, ℕ, List, IfSome}
+use Rattle.rgb_base.specs.Parts.{IndexParts, IsIndex}
+use Rattle.live_index.specs.History.{IsPlan, BeginsWithIdentity}
+use Rattle.rgb_app.specs.Planned.{planned_versions, is_planned}
+use Rattle.rgb_app.specs.declared.plan.SlabPlan.{SlabPlan}
 use Rattle.std.specs.FinMap.{get}
 use Rattle.ciff_wire.specs.Laws.{AreBytes}
 use Rattle.rgb_host.specs.Files.{Files}
@@ -34,7 +38,19 @@ VersionsTellTheWork = (files : Files) (input output queries : Word) (options : R
 abbrev pub HoldBytes : Files → Type 0
 HoldBytes files = (name : Word) → IfSome (get files name) AreBytes
 
--- and over files of bytes it comes to one
+-- and over files of bytes any command comes to some outcome
 abbrev pub SomeOutcome : Type 0
-SomeOutcome = (command : Command) → IsPlain command → (files : Files) → HoldBytes files
+SomeOutcome = (command : Command) (files : Files) → HoldBytes files
     → (outcome : Outcome) × ComesTo command files outcome
+
+-- over an index each version of a reordering is planned to be one numbering
+abbrev pub VersionsArePlanned : Type 0
+VersionsArePlanned =
+    (index : IndexParts) (plan : SlabPlan) → IsIndex index
+    → IsPlan planned_versions is_planned index plan
+
+-- and the first leaves each document where it is
+abbrev pub FirstVersionIsIdentity : Type 0
+FirstVersionIsIdentity =
+    (index : IndexParts) (plan : SlabPlan) → IsIndex index
+    → BeginsWithIdentity planned_versions is_planned index plan

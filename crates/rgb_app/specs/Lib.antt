@@ -8,4 +8,6 @@ pub mod Ends
 pub mod Printing
 pub mod Prepared
 pub mod Laws
+pub mod Planned
+pub mod Turns
 pub mod Summary

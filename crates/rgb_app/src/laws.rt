@@ -1,5 +1,5 @@
 //! Laws of what commands come to. Each call does nothing.
-ghost use Rattle.rgb_app.specs.Laws.{OneOutcome, AlikeOutcomes, VersionsTellTheWork, SomeOutcome};
+ghost use Rattle.rgb_app.specs.Laws.{OneOutcome, AlikeOutcomes, VersionsTellTheWork, SomeOutcome, VersionsArePlanned, FirstVersionIsIdentity};
 
 use bisection::laws::{bisection_is_one, each_document_once, numbering_of_is_there};
 use bool_query::answer_laws::{answer_is_one, answers_are_renumbered, store_answers_as_the_index};
@@ -10,8 +10,8 @@ use postings_rewrite::laws::renumbering_is_one;
 use query_file::laws::{every_file_has_verdict, queries_are_one};
 use rgb_base::laws::numbers_undo_the_order;
 
-/// A command over files of bytes comes to exactly one outcome. That of `live` isn't fixed before its
-/// versions are, but for the file that is written.
+/// A command over files of bytes comes to some outcome, and to exactly one, but for `live`: its work
+/// isn't fixed before the versions of its answers are, apart from the file that is written.
 pub fn exactly_one_outcome()
     ensures one { OneOutcome }
     ensures alike { AlikeOutcomes }
@@ -28,6 +28,21 @@ pub fn exactly_one_outcome()
     queries_are_one();
     every_file_has_verdict();
     generated_is_index();
+    forward_is_one();
+    start_by_name_is_one();
+    bisection_is_one();
+    each_document_once();
+    numbering_of_is_there();
+    renumbering_is_one();
+    numbers_undo_the_order();
+}
+
+/// Each version of a reordering is planned to be one numbering, and the first leaves each document where
+/// it is.
+pub fn versions_are_planned()
+    ensures one { VersionsArePlanned }
+    ensures first { FirstVersionIsIdentity }
+{
     forward_is_one();
     start_by_name_is_one();
     bisection_is_one();

@@ -2,12 +2,18 @@
 #![tactic(auto)]
 
 mod answers;
+mod beside;
 pub mod laws;
 mod live_answers;
+mod living;
+mod merging;
+mod plan;
 mod printing;
+mod publishing;
+mod reading;
 mod reordering;
-mod run;
+mod running;
 mod status;
 mod text;
 
-pub use run::{WordsFault, run_plain, run_words};
+pub use running::{WordsFault, run, run_plain, run_words};

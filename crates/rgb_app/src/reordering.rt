@@ -1,5 +1,5 @@
 //! What a reordering makes of an index.
-ghost use Rattle.std.specs.Prelude.{◌≡◌, length, IfOk, string_bytes};
+ghost use Rattle.std.specs.Prelude.{◌≡◌, ◌<◌, ◌≤◌, length, IfOk, string_bytes};
 ghost use Rattle.bisection.specs.Progress.{AreOptions};
 ghost use Rattle.rgb_app.specs.Text.{reorder_text};
 ghost use Rattle.rgb_app.specs.Prepared.{text_of};
@@ -17,7 +17,7 @@ use std::alloc::Global;
 use std::thread::Threads;
 
 /// The options as the recursion takes them.
-fn options_of(options: Reordering) -> Options
+pub(crate) fn options_of(options: Reordering) -> Options
     ensures same { result ≡ options_of options }
 {
     Options {
@@ -30,7 +30,7 @@ fn options_of(options: Reordering) -> Options
 }
 
 /// The forward index over the start order of the options.
-fn forward_of<R: Threads + Sync>(
+pub(crate) fn forward_of<R: Threads + Sync>(
     rt: &R,
     alloc: Global,
     index: &Index,
@@ -88,6 +88,33 @@ pub(crate) struct Reordered {
     pub(crate) last: String,
 }
 
+/// The new index with the text that tells of it.
+pub(crate) fn described<R: Threads + Sync>(
+    rt: &R,
+    alloc: Global,
+    index: &Index,
+    new: Index,
+    rounds: TraceList,
+    workers: u32,
+) -> Result<Reordered, OutOfMemory>
+    requires some { 0 < workers }
+    requires most { workers ≤ 64 }
+    ensures new { IfOk result (λ work. work.new ≡ new) }
+    ensures rounds { IfOk result (λ work. work.rounds ≡ rounds) }
+    ensures text { IfOk result (λ work. text_of work ≡ reorder_text index.now new rounds) }
+{
+    let before = Costs::of(rt, index, workers)?;
+    let after = Costs::of(rt, &new, workers)?;
+    let first = index_line(alloc, index)?;
+    let last = cost_lines(alloc, before, after)?;
+    Ok(Reordered {
+        new,
+        rounds,
+        first,
+        last,
+    })
+}
+
 /// Does all of the work that takes memory.
 pub(crate) fn prepare<R: Threads + Sync>(
     rt: &R,
@@ -101,16 +128,7 @@ pub(crate) fn prepare<R: Threads + Sync>(
         text_of work ≡ reorder_text index.now work.new work.rounds) }
 {
     let (new, rounds) = renumbered(rt, alloc, index, options)?;
-    let before = Costs::of(rt, index, options.workers)?;
-    let after = Costs::of(rt, &new, options.workers)?;
-    let first = index_line(alloc, index)?;
-    let last = cost_lines(alloc, before, after)?;
-    Ok(Reordered {
-        new,
-        rounds,
-        first,
-        last,
-    })
+    described(rt, alloc, index, new, rounds, options.workers)
 }
 
 /// The text of `make` for an index: what its reordering comes to. The new index is gone afterwards.

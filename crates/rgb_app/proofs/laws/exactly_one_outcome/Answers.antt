@@ -34,10 +34,11 @@ returns c =
       ones = ones;
       undo = c.numbers_undo_the_order.ensures.law;
       below = c.answers_are_renumbered.ensures.below;
+      answer = c.answer_is_one.ensures.law;
     } in
     record {
       alike = alike_outcomes c.file_is_one_index.ensures.one c.refusal_is_one.ensures.one c.never_both.ensures.never_both ones told;
       versions = live_work_is_one c.file_is_one_index.ensures.one c.file_is_one_index.ensures.sound ones told lives;
       one = one_outcome c.file_is_one_index.ensures.one c.refusal_is_one.ensures.one c.never_both.ensures.never_both ones told;
-      some = some_outcome c.every_file_is_read.ensures.read c.file_is_one_index.ensures.sound c.generated_is_index.ensures.law theirs c.every_file_has_verdict.ensures.some answers;
+      some = some_outcome c.every_file_is_read.ensures.read c.file_is_one_index.ensures.sound c.generated_is_index.ensures.law theirs c.every_file_has_verdict.ensures.some answers lives;
     }

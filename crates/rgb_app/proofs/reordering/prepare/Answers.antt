@@ -1,10 +1,10 @@
-use Rattle.std.proofs.Common.{◌≡◌}
-use Rattle.gap_report.specs.Costs.{costs_of}
-use Rattle.rgb_app.proofs.Texts.{text_is, same_ok}
+use Rattle.rgb_app.proofs.Texts.{described_is, described_text}
 use Rattle.rgb_app.proofs.reordering.prepare.Goals as goal
+
+pub returns-clause-ok : goal.returns-clause-ok
+returns-clause-ok g c =
+    described_is c.args.options c.args.index.now c.in_ok-new.new c.in_ok-new.rounds c.described.result c.described.ensures.new c.described.ensures.rounds c.in_ok-new.ensures.ok
 
 pub returns-clause-text : goal.returns-clause-text
 returns-clause-text g c =
-    let before : c.in_ok-before.before ≡ costs_of c.args.index.now = same_ok _ _ c.in_ok-before.ensures.ok in
-    let after : c.in_ok-after.after ≡ costs_of c.in_ok-new.new = same_ok _ _ c.in_ok-after.ensures.ok in
-    text_is c.args.index.now c.in_ok-new.new c.in_ok-new.rounds c.in_ok-before.before c.in_ok-after.after _ _ before after c.in_ok-first.ensures.line c.in_ok-last.ensures.lines
+    described_text c.args.index.now c.in_ok-new.new c.in_ok-new.rounds c.described.result c.described.ensures.new c.described.ensures.rounds c.described.ensures.text
