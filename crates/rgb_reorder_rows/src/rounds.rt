@@ -1,8 +1,6 @@
 //! Rounds that are kept, and those that aren't.
-use crate::files::{
-    FIVE, FIVE_REORDERED, FOUR, FOUR_LISTS, FOUR_LISTS_REORDERED, TWELVE, TWELVE_REORDERED,
-};
-use rgb_runs::{ALL_WELL, ONE, Row, SIX, SIX_REORDERED, is_met};
+use crate::files::{FIVE, FIVE_REORDERED, FOUR, FOUR_LISTS, FOUR_LISTS_REORDERED};
+use rgb_runs::{ALL_WELL, ONE, Row, SIX, SIX_REORDERED, TWELVE, TWELVE_REORDERED, is_met};
 use std::test::Fail;
 use std::thread::Threads;
 

@@ -1,5 +1,6 @@
 //! Rows in which warnings fail: the status and everything else stay as they are.
 use rgb_app::{WordsFault, run_words};
+use rgb_base::NoPace;
 use rgb_host::MemoryHost;
 use rgb_runs::{
     ALL_WELL, ONE, Row, Setting, bytes_of, has_file, has_told, host_with, is_met, words_of,
@@ -72,7 +73,7 @@ fn words_that_the_system_does_not_give(rt: HostRuntime) -> Result<(), Fail> {
             WordsFault::NotText
         };
         let mut host = host_of_one(rt.alloc(), failing(writes))?;
-        let ended = run_words(&rt, rt.alloc(), Err(fault), &mut host);
+        let ended = run_words(&rt, rt.alloc(), Err(fault), &mut host, &NoPace);
         assert!(rt; ended == status && has_told(&host, "", warned));
     }
     Ok(())
@@ -83,7 +84,7 @@ fn words_that_the_system_gives(rt: HostRuntime) -> Result<(), Fail> {
     let one = bytes_of(rt.alloc(), ONE)?;
     let words = words_of(rt.alloc(), "copy in out")?;
     let mut host = host_of_one(rt.alloc(), ALL_WELL)?;
-    let ended = run_words(&rt, rt.alloc(), Ok(words), &mut host);
+    let ended = run_words(&rt, rt.alloc(), Ok(words), &mut host, &NoPace);
     assert!(rt; ended == 0 && has_file(&host, "out", Some(&one)));
     Ok(())
 }

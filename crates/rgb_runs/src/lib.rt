@@ -2,9 +2,11 @@
 #![tactic(auto)]
 
 use rgb_app::run_plain;
+use rgb_base::Pace;
 use rgb_host::{FileMap, MemoryHost, Numbers};
 use std::alloc::Global;
 use std::collections::BTreeMap;
+use std::sync::Wait;
 use std::test::Fail;
 use std::thread::Threads;
 
@@ -53,6 +55,24 @@ pub const SIX_REORDERED: &str =
     19 0a 01 62 10 03 18 03 22 04 08 03 10 01 22 04 08 01 10 01 22 04 08 01 10 01 06 12 02 64 30 \
     18 01 08 08 01 12 02 64 31 18 01 08 08 02 12 02 64 33 18 01 08 08 03 12 02 64 32 18 01 08 08 \
     04 12 02 64 34 18 01 08 08 05 12 02 64 35 18 01";
+
+/// The lists of `SIX` over twelve documents.
+pub const TWELVE: &str =
+    "06 08 01 10 02 18 0c 17 0a 01 61 10 03 18 03 22 02 10 01 22 04 08 01 10 01 22 04 08 02 10 01 \
+    19 0a 01 62 10 03 18 03 22 04 08 02 10 01 22 04 08 02 10 01 22 04 08 01 10 01 06 12 02 64 30 \
+    18 01 08 08 01 12 02 64 31 18 01 08 08 02 12 02 64 32 18 01 08 08 03 12 02 64 33 18 01 08 08 \
+    04 12 02 64 34 18 01 08 08 05 12 02 64 35 18 01 08 08 06 12 02 64 36 18 01 08 08 07 12 02 64 \
+    37 18 01 08 08 08 12 02 64 38 18 01 08 08 09 12 02 64 39 18 01 09 08 0a 12 03 64 31 30 18 01 \
+    09 08 0b 12 03 64 31 31 18 01";
+
+/// The same in the order 0 1 3 2 4 5 6 to 11.
+pub const TWELVE_REORDERED: &str =
+    "06 08 01 10 02 18 0c 17 0a 01 61 10 03 18 03 22 02 10 01 22 04 08 01 10 01 22 04 08 01 10 01 \
+    19 0a 01 62 10 03 18 03 22 04 08 03 10 01 22 04 08 01 10 01 22 04 08 01 10 01 06 12 02 64 30 \
+    18 01 08 08 01 12 02 64 31 18 01 08 08 02 12 02 64 33 18 01 08 08 03 12 02 64 32 18 01 08 08 \
+    04 12 02 64 34 18 01 08 08 05 12 02 64 35 18 01 08 08 06 12 02 64 36 18 01 08 08 07 12 02 64 \
+    37 18 01 08 08 08 12 02 64 38 18 01 08 08 09 12 02 64 39 18 01 09 08 0a 12 03 64 31 30 18 01 \
+    09 08 0b 12 03 64 31 31 18 01";
 
 /// The generated index of three documents, as another program of the same rules writes it.
 pub const MADE_THREE: &str =
@@ -158,6 +178,20 @@ pub fn run_over<R: Threads + Sync + AllocGlobal>(
     let words = words_of(rt.alloc(), words)?;
     let mut host = host_of(rt.alloc(), files, setting)?;
     let status = run_plain(rt, rt.alloc(), &words, &mut host);
+    Ok((status, host))
+}
+
+/// The same by the call that does every command, with a pace that holds its threads.
+pub fn run_at_pace<R: Threads + Wait + Sync + AllocGlobal, P: Pace>(
+    rt: &R,
+    words: &str,
+    files: &[(&str, &[u8])],
+    setting: Setting<'_>,
+    pace: &P,
+) -> Result<(u8, MemoryHost), Fail> {
+    let words = words_of(rt.alloc(), words)?;
+    let mut host = host_of(rt.alloc(), files, setting)?;
+    let status = rgb_app::run(rt, rt.alloc(), &words, &mut host, pace);
     Ok((status, host))
 }
 
