@@ -159,6 +159,89 @@ row 0 '' '' query many.ciff no.queries
 head -c 16777216 /dev/zero | tr '\0' '\n' >most.queries
 row 0 '' '' query one.ciff most.queries
 
+# `live` is `reorder` with readers beside it. Which version a reader sees depends on when it looks, so the text is
+# written anew from the versions that it names: the answers at a version are those of `query` over the index as the
+# reordering left it then.
+costs_of_one=$'\nbefore gamma 1 delta 1 bytes 1\nafter gamma 1 delta 1 bytes 1'
+row 0 "$line$costs_of_one"$'\nreaders 2' '' live one.ciff out.ciff no.queries
+tell "$(bytes out.ciff)" "$one" 'out.ciff of live'
+row 0 "$line$costs_of_one"$'\nreaders 16\nlive 1 version 0 matches 1\n0 x\nlive 3 version 0 matches 0'\
+$'\nfinal 1 version 0 matches 1\n0 x\nfinal 3 version 0 matches 0' '' \
+    live --depth 0 one.ciff --readers 16 out.ciff some.queries
+row 0 $'documents 0 lists 0 postings 0\nbefore gamma 0 delta 0 bytes 0\nafter gamma 0 delta 0 bytes 0\nreaders 1' '' \
+    live nothing.ciff out.ciff no.queries --readers 1
+tell "$(same nothing.ciff out.ciff)" same 'no documents beside readers'
+
+# at_version NUMBER [WORD..]: what the queries mean over the index that `reorder` with these words leaves.
+at_version() {
+    local number=$1
+    shift
+    "$program" reorder "$birds" version.ciff "$@" >printed
+    "$program" query version.ciff "${birds%.ciff}.queries" >"version_$number"
+}
+
+# told READERS LAST: the text of the printed live blocks' versions behind that of the reordering. A version that is
+# above the last one, or below the one before it of the same reader, is told as `wrong`.
+told() {
+    awk -v readers="$1" -v last="$2" '
+    FNR == 1 { file++ }
+    file <= last + 1 && $1 == "query" {
+        line = $2; count[file - 1, line] = $4
+        if (file == 1) { lines[++queries] = line }
+        next
+    }
+    file <= last + 1 { shown[file - 1, line] = shown[file - 1, line] $0 "\n"; next }
+    $1 == "live" { version[$2] = $4 }
+    function put(word, line, at) {
+        printf "%s %s version %s matches %s\n%s", word, line, at, count[at, line], shown[at, line]
+    }
+    END {
+        print "readers " readers
+        for (i = 1; i <= queries; i++) {
+            at = version[lines[i]]
+            falls = i > readers && at + 0 < version[lines[i - readers]] + 0
+            put("live", lines[i], falls || at + 0 > last ? "wrong" : at)
+        }
+        for (i = 1; i <= queries; i++) { put("final", lines[i], last) }
+    }' $(seq -f 'version_%g' 0 "$2") behind
+}
+
+# beside READERS LAST [WORD..]: `live` of birds.ciff with these words, beside `reorder` with them.
+beside() {
+    local readers=$1 last=$2 size
+    shift 2
+    "$program" reorder "$birds" plain.ciff "$@" >printed_by_reorder
+    "$program" live "$birds" beside.ciff "${birds%.ciff}.queries" --readers "$readers" "$@" >printed 2>warned
+    tell "$? $(cat warned)" '0 ' "status of: live --readers $readers $*"
+    tell "$(same plain.ciff beside.ciff)" same "written by: live --readers $readers $*"
+    size=$(wc -l <printed_by_reorder)
+    head -n "$size" printed >front
+    tail -n "+$((size + 1))" printed >behind
+    tell "$(same front printed_by_reorder)" same "the text of the reordering by: live --readers $readers $*"
+    told "$readers" "$last" >wanted
+    tell "$(same behind wanted)" same "answers by: live --readers $readers $*"
+    awk '/^(live|final) / { line = $1 " " $2; next } line { print line, $2 }' behind | LC_ALL=C sort >names
+    tell "$(same names names_twice)" same "names by: live --readers $readers $*"
+}
+
+"$program" query "$birds" "${birds%.ciff}.queries" >version_0
+awk '$1 == "query" { line = $2; next } { print "live", line, $2; print "final", line, $2 }' version_0 |
+    LC_ALL=C sort >names_twice
+number=0
+for depth in 4 8 12 16 20 24 28 31; do
+    number=$((number + 1))
+    at_version "$number" --depth "$depth"
+done
+for readers in 1 2 3 16; do
+    for workers in 1 4; do
+        beside "$readers" 8 --workers "$workers"
+    done
+done
+at_version 1 --start name --depth 0
+at_version 2 --start name --depth 1
+at_version 3 --start name --depth 2
+beside 2 3 --start name --depth 2 --step 1
+
 row 2 '' usage
 row 2 '' usage Copy one.ciff no.ciff
 row 2 '' usage copy one.ciff
@@ -174,6 +257,11 @@ row 2 '' usage reorder one.ciff no.ciff --start doc
 row 2 '' usage reorder one.ciff no.ciff --depth=3
 row 2 '' usage query one.ciff
 row 2 '' usage query one.ciff some.queries --workers 1
+row 2 '' usage live one.ciff no.ciff
+row 2 '' usage live one.ciff no.ciff some.queries more
+row 2 '' usage live one.ciff no.ciff some.queries --readers 0
+row 2 '' usage live one.ciff no.ciff some.queries --readers 17
+row 2 '' usage live one.ciff no.ciff some.queries --workers 65
 row 2 '' usage make x no.ciff
 row 2 '' usage make 1000001 no.ciff
 row 2 '' usage make 3 no.ciff --number 4294967296
@@ -181,6 +269,7 @@ row 3 '' 'malformed 0 CutShort' copy /dev/null no.ciff
 row 3 '' 'malformed 25 Trailing' copy longer.ciff no.ciff
 row 3 '' 'malformed 9 SameTerm' copy same_term.ciff no.ciff
 row 3 '' 'malformed 9 SameTerm' report same_term.ciff
+row 3 '' 'malformed 9 SameTerm' live same_term.ciff no.ciff missing.queries
 for size in 100000 169775; do
     head -c "$size" many.ciff >cut.ciff
     "$program" copy cut.ciff no.ciff 2>warned
@@ -191,17 +280,21 @@ row 4 '' 'read fault' report missing.ciff
 row 4 '' 'read fault' reorder missing.ciff no.ciff
 row 4 '' 'read fault' query missing.ciff some.queries
 row 4 '' 'read fault' query one.ciff missing.queries
+row 4 '' 'read fault' live missing.ciff no.ciff some.queries
+row 4 '' 'read fault' live one.ciff no.ciff missing.queries
 row 3 '' 'malformed 25 Trailing' query longer.ciff missing.queries
 row 4 '' 'read fault' copy . no.ciff
 row 4 '' 'read fault' report .
-tell "$([ -e no.ciff ] && echo there || echo none)" none 'no.ciff'
 
 printf 'a\n\na b\n' >bad.queries
 row 7 '' 'query 3 2 Unexpected' query one.ciff bad.queries
+row 7 '' 'query 3 2 Unexpected' live one.ciff no.ciff bad.queries
 printf '\377' >bad.queries
 row 7 '' 'query 1 0 NotText' query one.ciff bad.queries
 printf '\n' >>most.queries
 row 8 '' 'queries too long' query one.ciff most.queries
+row 8 '' 'queries too long' live one.ciff no.ciff most.queries
+tell "$([ -e no.ciff ] && echo there || echo none)" none 'no.ciff'
 
 row 5 '' 'write fault' copy one.ciff missing/no.ciff
 row 5 '' 'write fault' copy one.ciff .
@@ -209,11 +302,14 @@ row 5 '' 'write fault' copy one.ciff /dev/full
 row 5 '' 'write fault' copy many.ciff /dev/full
 row 5 '' 'write fault' reorder "$birds" /dev/full
 row 5 '' 'write fault' make 3 /dev/full
+row 5 '' 'write fault' live "$birds" /dev/full some.queries
 out=/dev/full
 row 5 '' 'write fault' copy one.ciff whole.ciff
 tell "$(bytes whole.ciff)" "$one" 'whole.ciff'
 row 5 '' 'write fault' reorder one.ciff whole.ciff
 tell "$(bytes whole.ciff)" "$one" 'whole.ciff reordered'
+row 5 '' 'write fault' live one.ciff whole.ciff some.queries
+tell "$(bytes whole.ciff)" "$one" 'whole.ciff of live'
 row 5 '' 'write fault' report one.ciff
 row 5 '' 'write fault' query one.ciff some.queries
 
