@@ -1,8 +1,9 @@
 -- What closing a list makes of its message.
-use Rattle.std.proofs.Common.{◌≡◌, ◌≢◌, ℕ, ◌+◌, ◌^◌, ◌<◌, ◌≤◌, Bool, true, false, IsTrue, ℤ, pos, List, [], ◌∷◌, ◌++◌, length, map, refl, sym, ap, subst, ◌∙◌, arith, sum_by}
+use Rattle.std.proofs.Common.{◌≡◌, ◌≢◌, ◌⊎◌, inl, inr, ℕ, ◌+◌, ◌^◌, ◌<◌, ◌≤◌, Bool, true, false, IsTrue, ℤ, pos, List, [], ◌∷◌, ◌++◌, length, map, refl, sym, ap, subst, ◌∙◌, arith, sum_by}
 use Rattle.std.specs.List.{AllPairs, Contains}
 use Rattle.std.proofs.lemmas.List.{map_push, length-append, get_or_append_left, get_or_at}
 use Rattle.std.proofs.lemmas.List.Sums.{sum_by-append}
+use Rattle.std.proofs.lemmas.Bool.{false≢true}
 use Rattle.ciff_wire.specs.Field.{Entry}
 use Rattle.rgb_base.specs.declared.parts.TermList.{TermList}
 use Rattle.rgb_base.specs.declared.parts.Posting.{Posting}
@@ -10,13 +11,15 @@ use Rattle.rgb_base.specs.declared.parts.DocRecord.{DocRecord}
 use Rattle.rgb_base.specs.Parts.{IndexParts, terms_of, posting_count, text_size, AreDifferent, AreSized}
 use Rattle.rgb_base.specs.Building.{Building, IsBuilding, HasTerm, IsFullOfText, closed, with_list, parts_of}
 use Rattle.ciff_format.specs.declared.cause.Cause.{Cause}
-use Rattle.ciff_format.specs.declared.cause.Cause.TheVariants.{BadField, BadText, BadGap, SameTerm, TooMuch}
+use Rattle.ciff_format.specs.declared.cause.Cause.TheVariants.{CutShort, BadLength, BadField, BadText, BadCount, BadGap, SameTerm, BadDoc, Trailing, TooMuch}
 use Rattle.ciff_format.specs.Fields.{list_table, HasFields, AreTexts, text_at}
 use Rattle.ciff_format.specs.Messages.{PostingRows, HasListFields, gaps_in, AreGaps, IsListOf}
 use Rattle.ciff_format.specs.Refused.{IsListFault}
+use Rattle.ciff_reader.specs.declared.error.Refusal.{Refusal}
+use Rattle.ciff_reader.specs.declared.error.Refusal.TheVariants as refusals
 use Rattle.ciff_reader.specs.declared.gaps.Gaps.{Gaps}
 use Rattle.ciff_reader.specs.declared.list.ListFields.{ListFields}
-use Rattle.ciff_reader.specs.Listing.{listing, without_postings, ArePostings, ReadsList, AddsList}
+use Rattle.ciff_reader.specs.Listing.{listing, without_postings, ArePostings, SaysGoodGaps, SaysGaps, ReadsList, AddsList, IsRefusal, IsCloseFault}
 use Rattle.ciff_reader.proofs.Rows.{as_many, postings_of}
 
 not_before : (xs : List (List ℕ)) (y : List ℕ) → AllPairs (λ a b. a ≢ b) (xs ++ y ∷ []) → ¬ Contains xs y
@@ -81,27 +84,103 @@ module _ (message : List ℕ) (kept : ListFields) (gaps : Gaps) (building : Buil
           let names = ap (λ (ds : List DocRecord). sum_by (λ (d : DocRecord). length d.name) ds) none in
           too_much building.postings ((reads.postings.gaps.good good).few few) new (λ sized. omega (arith, full, sized.text, count, names))
 
-      pub is_added : (df cf : ℤ) (after : Building) → df ≡ kept.df → cf ≡ kept.cf → IsTrue gaps.are_few → after ≡ with_list building kept.term.now df cf → IsBuilding after
-          → AddsList message (without_postings building) after
-      is_added df cf after df_is cf_is few is sound =
+      pub is_added : IsTrue gaps.are_few → ¬ HasTerm building kept.term.now → AreSized (parts_of (with_list building kept.term.now kept.df kept.cf))
+          → AddsList message (without_postings building) (with_list building kept.term.now kept.df kept.cf)
+      is_added few new sized =
           let postings = (reads.postings.gaps.good good).few few in
-          let same = subst IsBuilding is sound in
           record {
             fields = reads.fields;
             rows = reads.rows;
-            list = closed building kept.term.now df cf;
+            list = closed building kept.term.now kept.df kept.cf;
             read = has_fields;
             texts = are_texts;
             gaps = are_gaps;
             says = record {
               term = reads.says.term texts;
-              df = df_is ∙ reads.says.df;
-              cf = cf_is ∙ reads.says.cf;
+              df = reads.says.df;
+              cf = reads.says.cf;
               documents = postings.documents;
               frequencies = postings.frequencies;
             };
-            new_term = not_before (terms_of building.lists) kept.term.now
-                (subst AreDifferent (map_push (λ (l : TermList). l.term) building.lists (closed building kept.term.now df cf)) same.different);
-            after_is = is;
-            sized = record { postings = omega (arith, sound.few_postings); text = sound.little_text };
+            new_term = new;
+            after_is = refl;
+            sized = sized;
           }
+
+-- ---- beside what the builder keeps
+
+-- numbers that are the same
+pub as_said : (building after : Building) (term : List ℕ) (df cf df' cf' : ℤ) → df' ≡ df → cf' ≡ cf → after ≡ with_list building term df' cf' → after ≡ with_list building term df cf
+as_said building after term df cf df' cf' same_df same_cf is = is ∙ ap (λ (z : ℤ). with_list building term z cf') same_df ∙ ap (λ (z : ℤ). with_list building term df z) same_cf
+
+-- the term of a list that was closed was new
+pub new_term : (building : Building) (term : List ℕ) (df cf : ℤ) → IsBuilding (with_list building term df cf) → ¬ HasTerm building term
+new_term building term df cf sound =
+    not_before (terms_of building.lists) term (subst AreDifferent (map_push (λ (l : TermList). l.term) building.lists (closed building term df cf)) sound.different)
+
+-- the lists of what is read have the terms of those in the builder, and its texts are as long
+pub is_closed_fault : (message : List ℕ) (kept : ListFields) (gaps : Gaps) (built building : Building) (lists : ℕ) → ReadsList message kept gaps building
+    → terms_of building.lists ≡ terms_of built.lists → text_size (parts_of building) ≡ text_size (parts_of built) → building.records ≡ []
+    → (refusal : Refusal) → IsCloseFault kept gaps built refusal → IsRefusal (IsListFault (listing lists building) message) refusal
+is_closed_fault message kept gaps built building lists reads terms text none refusals.OutOfMemory fault = fault
+is_closed_fault message kept gaps built building lists reads terms text none (refusals.Cause CutShort) fault = absurd fault
+is_closed_fault message kept gaps built building lists reads terms text none (refusals.Cause BadLength) fault = absurd fault
+is_closed_fault message kept gaps built building lists reads terms text none (refusals.Cause BadField) fault = absurd fault
+is_closed_fault message kept gaps built building lists reads terms text none (refusals.Cause BadText) fault = is_bad_text message kept gaps building lists reads fault
+is_closed_fault message kept gaps built building lists reads terms text none (refusals.Cause BadCount) fault = absurd fault
+is_closed_fault message kept gaps built building lists reads terms text none (refusals.Cause BadGap) fault = is_bad_gap message kept gaps building lists reads fault.0 fault.1
+is_closed_fault message kept gaps built building lists reads terms text none (refusals.Cause SameTerm) fault =
+    is_same_term message kept gaps building lists reads fault.0 fault.1 (subst (λ (ts : List (List ℕ)). Contains ts kept.term.now) (sym terms) fault.2)
+is_closed_fault message kept gaps built building lists reads terms text none (refusals.Cause BadDoc) fault = absurd fault
+is_closed_fault message kept gaps built building lists reads terms text none (refusals.Cause Trailing) fault = absurd fault
+is_closed_fault message kept gaps built building lists reads terms text none (refusals.Cause TooMuch) fault =
+    let new : ¬ HasTerm building kept.term.now = λ there. fault.2 (subst (λ (ts : List (List ℕ)). Contains ts kept.term.now) terms there) in
+    elim fault.3 [
+      | inl many ↦ is_too_many message kept gaps building lists reads fault.0 fault.1 many new
+      | inr long ↦ is_too_long message kept gaps building lists reads fault.0 fault.1 long.0 none new (omega (arith, long.1, text))
+    ]
+
+-- ---- what is pending, in a building
+
+cases_is : (b : Bool) → IsTrue b ⊎ (¬ IsTrue b)
+cases_is true = inl refl
+cases_is false = inr (λ was. false≢true was)
+
+moved_rows : (rows : PostingRows) (gaps fitting : Gaps) (pending building : Building) → pending.lists ≡ [] → building.documents ≡ pending.documents
+    → fitting ≡ record gaps { are_few = fitting.are_few } → (IsTrue fitting.are_few → IsTrue gaps.are_few × (building.postings ≡ pending.postings))
+    → (¬ IsTrue fitting.are_few → (¬ IsTrue gaps.are_few) ⊎ (2 ^ 32 ≤ posting_count building.lists + length pending.postings))
+    → SaysGaps rows gaps pending → SaysGaps rows fitting building
+moved_rows rows gaps fitting pending building none documents same few many says = record {
+  good = λ was.
+      let before : IsTrue gaps.are_good = subst IsTrue (ap (λ (g : Gaps). g.are_good) same) was in
+      let g = says.good before in
+      let count : posting_count pending.lists ≡ 0 = ap posting_count none in
+      record {
+        good = subst (λ (n : ℕ). AreGaps n (gaps_in rows)) (sym documents) g.good;
+        least = ap (λ (x : Gaps). pos x.least) same ∙ g.least;
+        document = ap (λ (x : Gaps). pos x.document) same ∙ g.document;
+        few = λ is. subst (ArePostings rows) (sym (few is).1) (g.few (few is).0);
+        many = λ isnt. elim (many isnt) [
+          | inl before ↦ omega (arith, g.many before, count)
+          | inr full ↦ by_cases g count full (cases_is gaps.are_few)
+        ];
+      };
+  bad = λ isnt. λ good. says.bad (λ was. isnt (subst IsTrue (sym (ap (λ (g : Gaps). g.are_good) same)) was)) (subst (λ (n : ℕ). AreGaps n (gaps_in rows)) documents good);
+}
+  where
+    by_cases : SaysGoodGaps rows gaps pending → posting_count pending.lists ≡ 0 → 2 ^ 32 ≤ posting_count building.lists + length pending.postings → IsTrue gaps.are_few ⊎ (¬ IsTrue gaps.are_few)
+        → 2 ^ 32 ≤ posting_count building.lists + length rows
+    by_cases g count full (inl is) = omega (arith, full, as_many rows pending.postings (g.few is))
+    by_cases g count full (inr isnt) = omega (arith, g.many isnt, count)
+
+pub moved : (message : List ℕ) (kept : ListFields) (gaps fitting : Gaps) (pending building : Building) → pending.lists ≡ [] → building.documents ≡ pending.documents
+    → fitting ≡ record gaps { are_few = fitting.are_few } → (IsTrue fitting.are_few → IsTrue gaps.are_few × (building.postings ≡ pending.postings))
+    → (¬ IsTrue fitting.are_few → (¬ IsTrue gaps.are_few) ⊎ (2 ^ 32 ≤ posting_count building.lists + length pending.postings))
+    → ReadsList message kept gaps pending → ReadsList message kept fitting building
+moved message kept gaps fitting pending building none documents same few many reads = record {
+  fields = reads.fields;
+  rows = reads.rows;
+  read = reads.read;
+  says = reads.says;
+  postings = record { each = reads.postings.each; gaps = moved_rows reads.rows gaps fitting pending building none documents same few many reads.postings.gaps };
+}

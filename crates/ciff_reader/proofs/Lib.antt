@@ -6,6 +6,7 @@ pub mod Rows
 pub mod Runs
 pub mod ListFields
 pub mod Closing
+pub mod Pending
 pub mod Reading
 pub mod ShortPostings
 pub mod ShortRecords

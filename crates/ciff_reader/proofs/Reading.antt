@@ -86,23 +86,8 @@ pub was_without : (before after : Building) → before.postings ≡ [] → Chang
 was_without before after none same =
     ap without_postings same ∙ sym (ap (λ (ps : List Posting). record before { postings = ps }) none)
 
-listing_stays : (lists : ℕ) (before after : Building) → ChangesPostings before after → listing lists after ≡ listing lists before
+pub listing_stays : (lists : ℕ) (before after : Building) → ChangesPostings before after → listing lists after ≡ listing lists before
 listing_stays lists before after same = ap (listing lists) same
-
-pub closed_ok : (message : List ℕ) (kept : ListFields) (gaps : Gaps) (before now after : Building) (result : Result (Unit {0}) Refusal) → before.postings ≡ [] → ChangesPostings before now
-    → ReadsList message kept gaps now
-    → OnOk result ((m : List ℕ) → ReadsList m kept gaps now → AddsList m (without_postings now) after)
-    → OnOk result (AddsList message before after)
-closed_ok message kept gaps before now after (Ok x) none same reads is = subst (λ (b : Building). AddsList message b after) (was_without before now none same) (is message reads)
-closed_ok message kept gaps before now after (Err e) none same reads is = tt
-
-pub closed_fault : (message : List ℕ) (kept : ListFields) (gaps : Gaps) (before now : Building) (result : Result (Unit {0}) Refusal) → ChangesPostings before now
-    → ReadsList message kept gaps now
-    → IfErr result (λ refusal. (m : List ℕ) (lists : ℕ) → ReadsList m kept gaps now → IsRefusal (IsListFault (listing lists now) m) refusal)
-    → IfErr result (λ refusal. (lists : ℕ) → IsRefusal (IsListFault (listing lists before) message) refusal)
-closed_fault message kept gaps before now (Ok x) same reads is = tt
-closed_fault message kept gaps before now (Err refusal) same reads is = λ lists.
-    subst (λ (front : Front). IsRefusal (IsListFault front message) refusal) (listing_stays lists before now same) (is message lists reads)
 
 pub changes_twice : (a b c : Building) → ChangesPostings a b → ChangesPostings b c → ChangesPostings a c
 changes_twice a b c first second = second ∙ ap (λ (x : Building). record x { postings = c.postings }) first

@@ -5,8 +5,9 @@ use Rattle.ciff_wire.specs.Field.{Entry, SpellsField, as_bytes}
 use Rattle.rgb_base.specs.declared.parts.Posting.{Posting}
 use Rattle.rgb_base.specs.declared.parts.TermList.{TermList}
 use Rattle.rgb_base.specs.Parts.{terms_of, posting_count, AreSized}
-use Rattle.rgb_base.specs.Building.{Building, parts_of}
+use Rattle.rgb_base.specs.Building.{Building, IsBuilding, HasTerm, IsFullOfText, with_list, parts_of}
 use Rattle.ciff_format.specs.declared.cause.Cause.{Cause}
+use Rattle.ciff_format.specs.declared.cause.Cause.TheVariants.{BadText, BadGap, SameTerm, TooMuch}
 use Rattle.ciff_format.specs.Fields.{HasItsType, HasFields, AreTexts, list_table, posting_table, int32_at, int64_at, text_at, each_at}
 use Rattle.ciff_format.specs.Messages.{PostingRows, HasListFields, gaps_in, sums_from, AreGaps, IsListOf}
 use Rattle.ciff_format.specs.Accepted.{Front}
@@ -126,3 +127,26 @@ pub record AddsList (message : List ℕ) (before after : Building) : Type 0 wher
   pub new_term : ¬ Contains (terms_of before.lists) list.term
   pub after_is : after ≡ record before { lists = before.lists ++ list ∷ []; postings = [] }
   pub sized : AreSized (parts_of after)
+
+-- ---- closing a list
+
+-- the open list is closed as one of these fields
+pub record Closes (kept : ListFields) (gaps : Gaps) (before after : Building) : Type 0 where
+  pub texts : IsTrue kept.are_texts
+  pub good : IsTrue gaps.are_good
+  pub few : IsTrue gaps.are_few
+  pub after_is : after ≡ with_list before kept.term.now kept.df kept.cf
+  pub sound : IsBuilding after
+
+-- why it isn't, the lesser causes first; want of memory is free
+abbrev pub IsCloseFault : ListFields → Gaps → Building → Refusal → Type 0
+IsCloseFault kept gaps building (refusals.Cause BadText) = ¬ IsTrue kept.are_texts
+IsCloseFault kept gaps building (refusals.Cause BadGap) =
+    IsTrue kept.are_texts × ¬ IsTrue gaps.are_good
+IsCloseFault kept gaps building (refusals.Cause SameTerm) =
+    IsTrue kept.are_texts × IsTrue gaps.are_good × HasTerm building kept.term.now
+IsCloseFault kept gaps building (refusals.Cause TooMuch) =
+    IsTrue kept.are_texts × IsTrue gaps.are_good × ¬ HasTerm building kept.term.now
+    × ((¬ IsTrue gaps.are_few) ⊎ (IsTrue gaps.are_few × IsFullOfText building kept.term.now))
+IsCloseFault kept gaps building (refusals.Cause cause) = ⊥
+IsCloseFault kept gaps building refusals.OutOfMemory = Unit {0}

@@ -8,13 +8,14 @@ ghost use Rattle.ciff_reader.specs.declared.list.ListFields.{ListFields};
 ghost use Rattle.ciff_reader.specs.Listing.{ChangesPostings, ReadsList, SaysGaps, TakesPosting};
 
 use crate::content::bytes_in;
+use crate::open_list::OpenList;
 use crate::posting::{PostingFields, read_posting};
 use crate::run::read_run;
 use crate::short::short_posting;
 use ciff_format::laws::{fields_grow, gaps_grow};
 use ciff_wire::Field;
 use ciff_wire::laws::field_after_field;
-use rgb_base::{BuildError, IndexBuilder, OutOfMemory, Posting};
+use rgb_base::{OutOfMemory, Posting};
 
 /// What the gaps of a list say so far.
 #[derive(Clone, Copy)]
@@ -35,11 +36,11 @@ impl Gaps {
     pub(crate) fn with_field(
         self,
         field: Field<'_>,
-        builder: &mut IndexBuilder,
+        pending: &mut OpenList,
     ) -> Result<Option<Gaps>, OutOfMemory>
-        ensures same { ChangesPostings builder.old builder.new }
+        ensures same { ChangesPostings pending.old pending.new }
         ensures taken { IfOk result (λ after.
-            TakesPosting (entry_of field.entry) self builder.old after builder.new) }
+            TakesPosting (entry_of field.entry) self pending.old after pending.new) }
     {
         fields_grow();
         if field.number != 4 {
@@ -51,7 +52,7 @@ impl Gaps {
         let Some(posting) = read_posting(message) else {
             return Ok(None);
         };
-        Ok(Some(self.with_posting(posting, builder)?))
+        Ok(Some(self.with_posting(posting, pending)?))
     }
 
     /// The short postings one after another from a place of the list's message on, and the place
@@ -62,26 +63,26 @@ impl Gaps {
         message: &[u8],
         start: usize,
         room: &mut [Posting],
-        builder: &mut IndexBuilder,
+        pending: &mut OpenList,
     ) -> Result<(Gaps, usize), OutOfMemory>
         requires { start ≤ length message.now }
-        ensures same { ChangesPostings builder.old builder.new }
+        ensures same { ChangesPostings pending.old pending.new }
         ensures behind { IfOk result (λ t. start ≤ t.1) }
         ensures within { IfOk result (λ t. t.1 ≤ length message.now) }
         ensures read { IfOk result (λ t. (kept : ListFields)
-            → ReadsList (take start message.now) kept self builder.old
-            → ReadsList (take t.1 message.now) kept t.0 builder.new) }
+            → ReadsList (take start message.now) kept self pending.old
+            → ReadsList (take t.1 message.now) kept t.0 pending.new) }
     {
         fields_grow();
         field_after_field();
         let mut gaps = self;
         let mut at = start;
         'postings: loop {
-            let (further, behind) = gaps.with_run(message, at, room, builder)?;
+            let (further, behind) = gaps.with_run(message, at, room, pending)?;
             let Some((posting, used)) = short_posting(&message[behind..]) else {
                 return Ok((further, behind));
             };
-            gaps = further.with_posting(posting, builder)?;
+            gaps = further.with_posting(posting, pending)?;
             at = behind + used;
         }
     }
@@ -93,24 +94,24 @@ impl Gaps {
         message: &[u8],
         start: usize,
         room: &mut [Posting],
-        builder: &mut IndexBuilder,
+        pending: &mut OpenList,
     ) -> Result<(Gaps, usize), OutOfMemory>
         requires { start ≤ length message.now }
-        ensures same { ChangesPostings builder.old builder.new }
+        ensures same { ChangesPostings pending.old pending.new }
         ensures behind { IfOk result (λ t. start ≤ t.1) }
         ensures within { IfOk result (λ t. t.1 ≤ length message.now) }
         ensures read { IfOk result (λ t. (kept : ListFields)
-            → ReadsList (take start message.now) kept self builder.old
-            → ReadsList (take t.1 message.now) kept t.0 builder.new) }
+            → ReadsList (take start message.now) kept self pending.old
+            → ReadsList (take t.1 message.now) kept t.0 pending.new) }
     {
         if !self.are_good || !self.are_few {
             return Ok((self, start));
         }
-        let run = read_run(message, start, self, builder.documents(), room);
-        match builder.push_postings(&room[..run.count]) {
-            Ok(()) => Ok((run.gaps, run.end)),
-            Err(BuildError::OutOfMemory) => Err(OutOfMemory),
-            Err(_) => Ok((self, start)),
+        let run = read_run(message, start, self, pending.documents(), room);
+        if pending.push_postings(&room[..run.count])? {
+            Ok((run.gaps, run.end))
+        } else {
+            Ok((self, start))
         }
     }
 
@@ -119,12 +120,12 @@ impl Gaps {
     fn with_posting(
         self,
         posting: PostingFields,
-        builder: &mut IndexBuilder,
+        pending: &mut OpenList,
     ) -> Result<Gaps, OutOfMemory>
-        ensures same { ChangesPostings builder.old builder.new }
+        ensures same { ChangesPostings pending.old pending.new }
         ensures taken { IfOk result (λ after. (rows : PostingRows) (row : List Entry)
-            → SaysPosting row posting → SaysGaps rows self builder.old
-            → SaysGaps (rows ++ row ∷ []) after builder.new) }
+            → SaysPosting row posting → SaysGaps rows self pending.old
+            → SaysGaps (rows ++ row ∷ []) after pending.new) }
     {
         gaps_grow();
         if !self.are_good {
@@ -132,36 +133,21 @@ impl Gaps {
         }
         let gap = i64::from(posting.gap);
         let sum = i64::from(self.document) + gap;
-        if gap < i64::from(self.least) || i64::from(builder.documents()) <= sum {
+        if gap < i64::from(self.least) || i64::from(pending.documents()) <= sum {
             return Ok(Gaps {
                 are_good: false,
                 ..self
             });
         }
         let document = sum as u32;
-        let are_few = self.are_few && has_pushed(document, posting.tf, builder)?;
+        let tf = posting.tf;
+        let are_few = self.are_few
+            && pending.push_posting(Posting { doc: document, tf })?;
         Ok(Gaps {
             least: 1,
             document,
             are_good: true,
             are_few,
         })
-    }
-}
-
-/// Pushes a posting whose document is good to the open list, and says whether there was room for it.
-#[inline]
-fn has_pushed(doc: u32, tf: i32, builder: &mut IndexBuilder) -> Result<bool, OutOfMemory>
-    ensures same { ChangesPostings builder.old builder.new }
-    ensures pushed { IfOk result (λ pushed. IsTrue pushed
-        → builder.new ≡ with_posting builder.old (record { doc = doc; tf = tf })) }
-    ensures full { IfOk result (λ pushed. ¬ IsTrue pushed
-        → (builder.new ≡ builder.old)
-        × (IsNextDocument builder.old doc → IsFullOfPostings builder.old)) }
-{
-    match builder.push_posting(Posting { doc, tf }) {
-        Ok(()) => Ok(true),
-        Err(BuildError::OutOfMemory) => Err(OutOfMemory),
-        Err(_) => Ok(false),
     }
 }

@@ -12,6 +12,7 @@ mod heading;
 mod list;
 mod lists;
 mod message;
+mod open_list;
 mod posting;
 mod read;
 mod record;

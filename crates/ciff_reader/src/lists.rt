@@ -8,10 +8,12 @@ ghost use Rattle.ciff_reader.specs.Window.{ExplainsWhere};
 use crate::error::{ReadError, Refusal};
 use crate::list::read_list;
 use crate::message::next_message;
+use crate::open_list::OpenList;
 use crate::window::Window;
 use ciff_format::laws::messages_grow;
 use rgb_base::{IndexBuilder, Posting};
 use rgb_host::Host;
+use std::alloc::Global;
 
 /// How many postings at most are pushed together.
 const TOGETHER: usize = 256;
@@ -20,13 +22,17 @@ const TOGETHER: usize = 256;
 fn take_list<H: Host>(
     window: &mut Window,
     room: &mut [Posting],
+    pending: &mut OpenList,
     builder: &mut IndexBuilder,
     host: &mut H,
     name: &str,
 ) -> Result<(), ReadError>
+    requires none_pending { pending.old.postings ≡ [] }
+    requires documents { pending.old.documents ≡ builder.old.documents }
     requires none_open { builder.old.postings ≡ [] }
     requires no_record { builder.old.records ≡ [] }
     requires few { length builder.old.lists + 1 < 2 ^ 31 }
+    ensures pending { OnOk result (pending.new ≡ pending.old) }
     ensures more { OnOk result (HasOneMoreList builder.old builder.new) }
     ensures ok { OnOk result ((lists : ℕ) (file : List ℕ) → length builder.old.lists < lists
         → AtGood (H.seen host.old) name.now window.old (listing lists builder.old) file
@@ -43,7 +49,7 @@ fn take_list<H: Host>(
         Err(error) => return Err(error),
     };
     let end = span.from + span.size;
-    match read_list(&window.bytes()[span.from..end], room, builder) {
+    match read_list(&window.bytes()[span.from..end], room, pending, builder) {
         Ok(()) => {}
         Err(Refusal::Cause(cause)) => return Err(ReadError::Malformed { place, cause }),
         Err(Refusal::OutOfMemory) => return Err(ReadError::OutOfMemory),
@@ -54,6 +60,7 @@ fn take_list<H: Host>(
 
 /// Reads all lists, of which there are so many.
 pub(crate) fn read_lists<H: Host>(
+    alloc: Global,
     count: u32,
     window: &mut Window,
     builder: &mut IndexBuilder,
@@ -77,8 +84,9 @@ pub(crate) fn read_lists<H: Host>(
         Refused error name.now (H.seen host.old) (H.seen host.new)) }
 {
     let mut room = [Posting { doc: 0, tf: 0 }; TOGETHER];
+    let mut pending = OpenList::new(alloc, builder.documents());
     for list in 0..count {
-        match take_list(window, &mut room, builder, host, name) {
+        match take_list(window, &mut room, &mut pending, builder, host, name) {
             Ok(()) => {}
             Err(error) => return Err(error),
         }

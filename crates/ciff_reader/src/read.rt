@@ -97,7 +97,7 @@ fn read_file<H: Host>(
     let Ok(mut builder) = IndexBuilder::new(alloc, heading.header, heading.documents) else {
         return Err(ReadError::OutOfMemory);
     };
-    match read_lists(lists, window, &mut builder, host, name) {
+    match read_lists(alloc, lists, window, &mut builder, host, name) {
         Ok(()) => {}
         Err(error) => return Err(error),
     }

@@ -1,98 +1,36 @@
-use Rattle.std.proofs.Common.{◌≡◌, ◌-◌, ◌≤◌, List, ℕ, length, take, drop, IfSome, IfNone, [], refl, ap, subst, ◌∙◌, arith}
-use Rattle.std.proofs.lemmas.List.{take_rest, length-take, length-drop}
-use Rattle.ciff_wire.specs.Field.{SpellsField, entry_of}
-use Rattle.ciff_format.specs.Fields.{list_table}
-use Rattle.std.specs.Prelude.{Option}
-use Rattle.ciff_reader.specs.declared.gaps.Gaps.{Gaps}
-use Rattle.rgb_base.specs.Building.{Building}
-use Rattle.ciff_reader.specs.Listing.{ReadsList, TakesPosting}
-use Rattle.ciff_reader.proofs.Fronts.{used_some, faulty, wrong_type, whole}
-use Rattle.ciff_reader.proofs.Reading.{gaps_begin, list_goes_on, bad_field, changes_twice, closed_ok, closed_fault}
-use Rattle.ciff_reader.proofs.ShortFronts.{list_goes_on_behind}
+use Rattle.std.proofs.Common.{◌≡◌, ℕ, List, refl, sym, ap, subst, ◌∙◌, arith}
+use Rattle.rgb_base.specs.Building.{Building, IsBuilding, with_list}
+use Rattle.ciff_format.specs.Accepted.{Front}
+use Rattle.ciff_format.specs.Refused.{IsListFault}
+use Rattle.ciff_reader.specs.Listing.{listing, without_postings, IsRefusal, AddsList}
+use Rattle.ciff_reader.proofs.Reading.{was_without, listing_stays}
+use Rattle.ciff_reader.proofs.Closing.{is_added, new_term, is_closed_fault}
 use Rattle.ciff_reader.proofs.list.read_list.Goals as goal
 
-pub fields-init : goal.fields-init
-fields-init c = record {
-  within = c.read_front-behind_front.ensures.within;
-  read = list_goes_on_behind _ _ _ c.args.builder.now c.read_front-behind_front.ensures.read (gaps_begin _ c.args.builder.now refl refl refl refl c.requires.none_open);
-  same = refl;
-  no_record = c.requires.no_record;
-  few = c.requires.few;
-}
+pub returns-in-Err-clause-fault : goal.returns-in-Err-clause-fault
+returns-in-Err-clause-fault c = λ lists. c.in-Err.ensures.fault (listing lists c.args.builder.now)
 
-pub returns-in_default-next_field-clause-fault : goal.returns-in_default-next_field-clause-fault
-returns-in_default-next_field-clause-fault c = λ lists fields rows has.
+pub returns-in-Ok-close-clause-ok : goal.returns-in-Ok-close-clause-ok
+returns-in-Ok-close-clause-ok c =
     let message = c.args.message.now in
-    let at = c.in-Ok.behind in
-    let so_far = c.in-Ok.ensures.read c.fields.kept c.fields.invariant.read in
-    faulty c.field_after_field.ensures.first c.message_is_one.ensures.fault list_table message (take (length message - at) (drop at message)) at so_far.fields c.in_default-next_field.field-0
-    (take_rest message at) c.in_default-next_field.ensures.fault so_far.read fields has.own
+    let kept = c.in-Ok.read.0 in
+    let fitting = c.in_ok-fitting.fitting in
+    let mid = c.fill.new.builder in
+    let after = c.close.new.builder in
+    let reads = c.in_ok-fitting.ensures.read message kept c.in-Ok.ensures.read in
+    let closes = c.in-Ok-close.ensures.ok in
+    let sound = subst IsBuilding closes.after_is closes.sound in
+    let adds = is_added message kept fitting mid 0 reads closes.texts closes.good closes.few (new_term mid kept.term.now kept.df kept.cf sound) (record { postings = omega (arith, sound.few_postings); text = sound.little_text }) in
+    subst (λ (b : Building). AddsList message b after) (was_without c.args.builder.now mid c.requires.none_open c.in_ok-fitting.ensures.same)
+    (subst (λ (b : Building). AddsList message (without_postings mid) b) (sym closes.after_is) adds)
 
-pub returns-in_default-next-clause-ok : goal.returns-in_default-next-clause-ok
-returns-in_default-next-clause-ok c =
+pub returns-in-Err-close-clause-fault : goal.returns-in-Err-close-clause-fault
+returns-in-Err-close-clause-fault c = λ lists.
     let message = c.args.message.now in
-    let at = c.in-Ok.behind in
-    let so_far = c.in-Ok.ensures.read c.fields.kept c.fields.invariant.read in
-    let rest = take (length message - at) (drop at message) in
-    let none : rest ≡ [] = subst (λ next. IfNone next (rest ≡ [])) c.in_default-next.is c.in-Ok-next_field.ensures.none in
-    let reads = subst (λ (m : List ℕ). ReadsList m c.fields.kept c.in-Ok.gaps_so_far c.with_short_postings.new.builder) (whole message rest at (take_rest message at) none) so_far in
-    closed_ok message c.fields.kept c.in-Ok.gaps_so_far c.args.builder.now c.with_short_postings.new.builder c.close.new.builder c.close.result c.requires.none_open (changes_twice c.args.builder.now c.fields.builder c.with_short_postings.new.builder c.fields.invariant.same c.in-Ok.ensures.same) reads c.close.ensures.ok
-
-pub returns-in_default-next-clause-fault : goal.returns-in_default-next-clause-fault
-returns-in_default-next-clause-fault c =
-    let message = c.args.message.now in
-    let at = c.in-Ok.behind in
-    let so_far = c.in-Ok.ensures.read c.fields.kept c.fields.invariant.read in
-    let rest = take (length message - at) (drop at message) in
-    let none : rest ≡ [] = subst (λ next. IfNone next (rest ≡ [])) c.in_default-next.is c.in-Ok-next_field.ensures.none in
-    let reads = subst (λ (m : List ℕ). ReadsList m c.fields.kept c.in-Ok.gaps_so_far c.with_short_postings.new.builder) (whole message rest at (take_rest message at) none) so_far in
-    closed_fault message c.fields.kept c.in-Ok.gaps_so_far c.args.builder.now c.with_short_postings.new.builder c.close.result (changes_twice c.args.builder.now c.fields.builder c.with_short_postings.new.builder c.fields.invariant.same c.in-Ok.ensures.same) reads c.close.ensures.fault
-
-pub returns-in_default-with_field-clause-fault : goal.returns-in_default-with_field-clause-fault
-returns-in_default-with_field-clause-fault c = λ lists fields rows has.
-    let message = c.args.message.now in
-    let at = c.in-Ok.behind in
-    let so_far = c.in-Ok.ensures.read c.fields.kept c.fields.invariant.read in
-    let rest = take (length message - at) (drop at message) in
-    let spells : SpellsField (take c.in-Some.used rest) (entry_of c.in-Some.field) = subst (λ next. IfSome next (λ t. SpellsField (take t.1 rest) (entry_of t.0))) c.in-Some.is c.in-Ok-next_field.ensures.field in
-    wrong_type c.field_after_field.ensures.added c.fields_grow.ensures.types c.fields_grow.ensures.wrong_type list_table message rest at c.in-Some.used so_far.fields (entry_of c.in-Some.field)
-    (take_rest message at) spells c.in_default-with_field.ensures.taken so_far.read fields has.own
-
-pub returns-in_default-taken-clause-fault : goal.returns-in_default-taken-clause-fault
-returns-in_default-taken-clause-fault c = λ lists fields rows.
-    let message = c.args.message.now in
-    let at = c.in-Ok.behind in
-    let so_far = c.in-Ok.ensures.read c.fields.kept c.fields.invariant.read in
-    let rest = take (length message - at) (drop at message) in
-    let spells : SpellsField (take c.in-Some.used rest) (entry_of c.in-Some.field) = subst (λ next. IfSome next (λ t. SpellsField (take t.1 rest) (entry_of t.0))) c.in-Some.is c.in-Ok-next_field.ensures.field in
-    let bad = subst (λ (t : Option Gaps). TakesPosting (entry_of c.in-Some.field) c.in-Ok.gaps_so_far c.with_short_postings.new.builder t c.with_field-in-fields.new.builder) c.in_default-taken.is c.in-Ok-with_field.ensures.taken in
-    bad_field c.field_after_field.ensures.added c.fields_grow.ensures.types c.fields_grow.ensures.wrong_type c.fields_grow.ensures.bad_posting message rest at c.in-Some.used so_far.fields (entry_of c.in-Some.field)
-    (take_rest message at) spells bad so_far.read fields rows
-
-pub fields-smaller : goal.fields-smaller
-fields-smaller c =
-    let message = c.args.message.now in
-    let at = c.in-Ok.behind in
-    let rest = take (length message - at) (drop at message) in
-    let spells : SpellsField (take c.in-Some.used rest) (entry_of c.in-Some.field) = subst (λ next. IfSome next (λ t. SpellsField (take t.1 rest) (entry_of t.0))) c.in-Some.is c.in-Ok-next_field.ensures.field in
-    let within : c.in-Some.used ≤ length rest = subst (λ next. IfSome next (λ t. t.1 ≤ length rest)) c.in-Some.is c.in-Ok-next_field.ensures.within in
-    omega (arith, within, used_some rest (entry_of c.in-Some.field) c.in-Some.used spells, length-take (length message - at) (drop at message), length-drop at message, c.in-Ok.ensures.within, c.in-Ok.ensures.behind)
-
-pub fields-preserved : goal.fields-preserved
-fields-preserved c =
-    let message = c.args.message.now in
-    let at = c.in-Ok.behind in
-    let so_far = c.in-Ok.ensures.read c.fields.kept c.fields.invariant.read in
-    let rest = take (length message - at) (drop at message) in
-    let spells : SpellsField (take c.in-Some.used rest) (entry_of c.in-Some.field) = subst (λ next. IfSome next (λ t. SpellsField (take t.1 rest) (entry_of t.0))) c.in-Some.is c.in-Ok-next_field.ensures.field in
-    let within : c.in-Some.used ≤ length rest = subst (λ next. IfSome next (λ t. t.1 ≤ length rest)) c.in-Some.is c.in-Ok-next_field.ensures.within in
-    let pushed = subst (λ (t : Option Gaps). TakesPosting (entry_of c.in-Some.field) c.in-Ok.gaps_so_far c.with_short_postings.new.builder t c.with_field-in-fields.new.builder) c.in-Some-taken.is c.in-Ok-with_field.ensures.taken in
-    let same = changes_twice c.fields.builder c.with_short_postings.new.builder c.with_field-in-fields.new.builder c.in-Ok.ensures.same c.in-Ok-with_field.ensures.same in
-    record {
-      within = omega (arith, within, length-take (length message - at) (drop at message), length-drop at message, c.in-Ok.ensures.within);
-      read = list_goes_on c.field_after_field.ensures.added c.fields_grow.ensures.types message rest at c.in-Some.used (entry_of c.in-Some.field) c.fields.kept c.in-Some-with_field.more c.in-Ok.gaps_so_far c.in-Some-taken.further c.with_short_postings.new.builder c.with_field-in-fields.new.builder
-          (take_rest message at) spells c.in-Some-with_field.ensures.taken pushed so_far;
-      same = changes_twice c.args.builder.now c.fields.builder c.with_field-in-fields.new.builder c.fields.invariant.same same;
-      no_record = ap (λ (b : Building). b.records) same ∙ c.fields.invariant.no_record;
-      few = omega (arith, ap (λ (b : Building). length b.lists) same, c.fields.invariant.few);
-    }
+    let kept = c.in-Ok.read.0 in
+    let fitting = c.in_ok-fitting.fitting in
+    let mid = c.fill.new.builder in
+    let same = c.in_ok-fitting.ensures.same in
+    let reads = c.in_ok-fitting.ensures.read message kept c.in-Ok.ensures.read in
+    subst (λ (front : Front). IsRefusal (IsListFault front message) c.in-Err-close.refusal) (listing_stays lists c.args.builder.now mid same)
+    (is_closed_fault message kept fitting mid mid lists reads refl refl (ap (λ (b : Building). b.records) same ∙ c.requires.no_record) c.in-Err-close.refusal c.in-Err-close.ensures.fault)

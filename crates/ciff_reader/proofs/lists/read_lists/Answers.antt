@@ -29,6 +29,8 @@ loop-list-preserved g c =
     let expected : length l.builder.lists < count = omega (arith, l.invariant.lists) in
     record {
       lists = lists_go_on c.args.builder.now l.builder c.take_list.new.builder l.list l.invariant.lists more;
+      none_pending = ap (λ (b : Building). b.postings) c.in-Ok.ensures.pending ∙ l.invariant.none_pending;
+      pending = ap (λ (b : Building). b.documents) c.in-Ok.ensures.pending ∙ l.invariant.pending;
       none_open = ap (λ (b : Building). b.postings) more.is;
       no_record = ap (λ (b : Building). b.records) more.is ∙ l.invariant.no_record;
       documents = ap (λ (b : Building). b.documents) more.is ∙ l.invariant.documents;
@@ -37,3 +39,6 @@ loop-list-preserved g c =
           (c.in-Ok.ensures.ok count file expected (still_good (seen c.args.host.now) (seen l.host) name l.window (listing count l.builder) file l.invariant.same (l.invariant.at file at)));
       same = c.in-Ok.ensures.same ∙ l.invariant.same;
     }
+
+pub take_list-requires-clause-documents : goal.take_list-requires-clause-documents
+take_list-requires-clause-documents g c = c.loop-list.invariant.pending ∙ sym c.loop-list.invariant.documents

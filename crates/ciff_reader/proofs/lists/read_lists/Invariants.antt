@@ -6,6 +6,8 @@ use Rattle.ciff_reader.proofs.lists.read_lists.Given as goal
 abbrev pub invariant-loop-list : goal.invariant-loop-list
 invariant-loop-list g l = record {
   lists : length l.builder.lists ≡ l.list;
+  none_pending : l.pending.postings ≡ [];
+  pending : l.pending.documents ≡ l.fn.builder.documents;
   none_open : l.builder.postings ≡ [];
   no_record : l.builder.records ≡ [];
   documents : l.builder.documents ≡ l.fn.builder.documents;

@@ -11,14 +11,14 @@ postings-preserved c =
     let at = c.in_ok-further.behind in
     let rest = take (length message - at) (drop at message) in
     let starts = c.in-Some.ensures.posting in
-    let same = changes_twice c.args.builder.now c.postings.builder c.with_run.new.builder c.postings.invariant.same c.in_ok-further.ensures.same in
+    let same = changes_twice c.args.pending.now c.postings.pending c.with_run.new.pending c.postings.invariant.same c.in_ok-further.ensures.same in
     record {
       behind = omega (arith, c.postings.invariant.behind, c.in_ok-further.ensures.behind);
       within = omega (arith, starts.within, length-take (length message - at) (drop at message), length-drop at message, c.in_ok-further.ensures.within);
-      same = changes_twice c.args.builder.now c.with_run.new.builder c.with_posting.new.builder same c.in_ok-gaps.ensures.same;
+      same = changes_twice c.args.pending.now c.with_run.new.pending c.with_posting.new.pending same c.in_ok-gaps.ensures.same;
       read = λ kept reads.
           posting_goes_on c.field_after_field.ensures.added c.fields_grow.ensures.types c.fields_grow.ensures.held c.fields_grow.ensures.texts c.fields_grow.ensures.each message rest at c.in-Some.used c.in-Some.posting
-          kept c.in_ok-further.further c.in_ok-gaps.gaps c.with_run.new.builder c.with_posting.new.builder (take_rest message at) starts c.in_ok-gaps.ensures.taken
+          kept c.in_ok-further.further c.in_ok-gaps.gaps c.with_run.new.pending c.with_posting.new.pending (take_rest message at) starts c.in_ok-gaps.ensures.taken
           (c.in_ok-further.ensures.read kept (c.postings.invariant.read kept reads));
     }
 

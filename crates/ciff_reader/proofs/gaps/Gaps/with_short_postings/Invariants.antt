@@ -7,8 +7,8 @@ abbrev pub invariant-postings : goal.invariant-postings
 invariant-postings l = record {
   behind : l.start ≤ l.at;
   within : l.at ≤ length l.message;
-  same : ChangesPostings l.fn.builder l.builder;
-  read : (kept : ListFields) → ReadsList (take l.start l.message) kept l.fn.self l.fn.builder → ReadsList (take l.at l.message) kept l.gaps l.builder;
+  same : ChangesPostings l.fn.pending l.pending;
+  read : (kept : ListFields) → ReadsList (take l.start l.message) kept l.fn.self l.fn.pending → ReadsList (take l.at l.message) kept l.gaps l.pending;
 }
 
 abbrev pub decreases-postings : goal.decreases-postings

@@ -1,0 +1,1 @@
+use Rattle.ciff_reader.proofs.list.fill.Goals as goal
