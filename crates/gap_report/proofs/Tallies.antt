@@ -1,10 +1,10 @@
 -- Tallies of gaps and of lists, put together.
-use Rattle.std.proofs.Common.{◌≡◌, ℕ, ◌+◌, ◌-◌, ◌^◌, ◌<◌, ◌≤◌, List, [], ◌∷◌, length, get_or, Some, option_map, refl, ◌∙◌, ap, subst, All, arith}
+use Rattle.std.proofs.Common.{◌≡◌, ℕ, ◌+◌, ◌-◌, ◌^◌, ◌<◌, ◌≤◌, List, [], ◌∷◌, ◌++◌, length, get_or, Some, option_map, refl, ◌∙◌, ap, subst, All, arith}
 use Rattle.std.specs.Prelude.{pos, sum_by, slice_get, slice_range}
 use Rattle.std.specs.List.Sorted.{IsStrictlyIncreasing}
 use Rattle.std.proofs.Math.ListN.{get_or-map}
 use Rattle.std.proofs.lemmas.List.{length-map, take_all}
-use Rattle.std.proofs.lemmas.List.Sums.{sum_by-cons}
+use Rattle.std.proofs.lemmas.List.Sums.{sum_by-append, sum_by-cons}
 use Rattle.std.proofs.lemmas.Option.{slice_get-get_or}
 use Rattle.rgb_base.specs.declared.parts.Posting.{Posting}
 use Rattle.rgb_base.specs.declared.parts.TermList.{TermList}
@@ -69,6 +69,24 @@ IsTallyOf-more lists from to postings now next order within read before added =
       bytes = omega (arith, before.bytes, added.bytes, cost varint_bytes);
     }
 
+pub IsTallyOf-push : (lists : List TermList) (list : TermList) (postings : List Posting) (now next : Tally) → list.postings ≡ postings → IsTallyOf now lists → Adds now next (coded_gaps postings) → IsTallyOf next (lists ++ list ∷ [])
+IsTallyOf-push lists list postings now next read before added =
+    let cost : (f : ℕ → ℕ) → sum_over_gaps f (lists ++ list ∷ []) ≡ sum_over_gaps f lists + sum_by f (coded_gaps postings) =
+    λ f. omega (
+      arith,
+      sum_by-append (λ (l : TermList). sum_by f (coded_gaps l.postings)) lists (list ∷ []),
+      sum_by-cons (λ (l : TermList). sum_by f (coded_gaps l.postings)) list [],
+      ap (λ (ps : List Posting). sum_by f (coded_gaps ps)) read,
+    ) in
+    let count = sum_by-append (λ (l : TermList). length l.postings) lists (list ∷ []) in
+    let gaps : length (coded_gaps postings) ≡ length postings = ap length (gaps_of_docs postings) ∙ length-gaps_after 0 postings in
+    record {
+      postings = omega (arith, before.postings, added.postings, count, gaps, ap length read);
+      gamma = omega (arith, before.gamma, added.gamma, cost gamma_bits);
+      delta = omega (arith, before.delta, added.delta, cost delta_bits);
+      bytes = omega (arith, before.bytes, added.bytes, cost varint_bytes);
+    }
+
 pub IsTallyOf-both : (lists : List TermList) (from middle to : ℕ) (whole a b : Tally) → from ≤ middle → middle ≤ to → IsSumOf whole a b → IsTallyOf a (slice_range lists from middle) → IsTallyOf b (slice_range lists middle to) → IsTallyOf whole (slice_range lists from to)
 IsTallyOf-both lists from middle to whole a b low high sum front back =
     let cost : (f : ℕ → ℕ) → sum_over_gaps f (slice_range lists from to) ≡ sum_over_gaps f (slice_range lists from middle) + sum_over_gaps f (slice_range lists middle to) =
@@ -111,16 +129,20 @@ both_have_room index from middle to sound low high =
 abbrev pub costs_made : ℕ → ℕ → ℕ → ℕ → Costs
 costs_made postings gamma delta bytes = record { postings = postings; gamma = gamma; delta = delta; bytes = bytes }
 
-pub costs_from_tally : (index : IndexParts) (tally : Tally) (postings gamma delta bytes : ℕ) → IsTallyOf tally (slice_range index.lists 0 (length index.lists)) → postings ≡ tally.postings → gamma ≡ gamma_of tally → delta ≡ delta_of tally → bytes ≡ bytes_of tally
+pub costs_from_tally : (index : IndexParts) (tally : Tally) (postings gamma delta bytes : ℕ) → IsTallyOf tally index.lists → postings ≡ tally.postings → gamma ≡ gamma_of tally → delta ≡ delta_of tally → bytes ≡ bytes_of tally
     → costs_made postings gamma delta bytes ≡ costs_of index
 unfolding costs_of
-costs_from_tally index tally postings gamma delta bytes is p g d b =
-    let whole : slice_range index.lists 0 (length index.lists) ≡ index.lists = take_all (length index.lists - 0) index.lists (omega arith) in
-    let all : IsTallyOf tally index.lists = subst (IsTallyOf tally) whole is in
+costs_from_tally index tally postings gamma delta bytes all p g d b =
     ap (λ n. costs_made n gamma delta bytes) (p ∙ all.postings)
     ∙ (ap (λ n. costs_made (posting_count index.lists) n delta bytes) (g ∙ all.gamma)
     ∙ (ap (λ n. costs_made (posting_count index.lists) (sum_over_gaps gamma_bits index.lists) n bytes) (d ∙ all.delta)
     ∙ ap (λ n. costs_made (posting_count index.lists) (sum_over_gaps gamma_bits index.lists) (sum_over_gaps delta_bits index.lists) n) (b ∙ all.bytes)))
+
+-- the lists from the first to the last are all of them
+pub tally_of_all : (lists : List TermList) (tally : Tally) → IsTallyOf tally (slice_range lists 0 (length lists)) → IsTallyOf tally lists
+tally_of_all lists tally is =
+    let whole : slice_range lists 0 (length lists) ≡ lists = take_all (length lists - 0) lists (omega arith) in
+    subst (IsTallyOf tally) whole is
 
 -- a posting that rises comes behind the one before it
 pub next_rises : (postings : List Posting) (i : ℕ) → IsStrictlyIncreasing (docs_of postings) → i + 1 < length postings → (get_or postings i no_posting).doc + 1 ≤ (get_or postings (i + 1) no_posting).doc

@@ -19,7 +19,9 @@ pub struct Costs {
 }
 
 impl Costs {
+    ghost use Rattle.rgb_base.specs.Parts.{IndexParts};
     ghost use Rattle.gap_report.specs.Costs.{costs_of};
+    ghost use Rattle.gap_report.specs.Tally.{IsTallyOf};
 
     /// The costs of an index, counted by so many threads. They don't depend on how many.
     /// Takes no memory.
@@ -29,14 +31,22 @@ impl Costs {
         ensures ok { result ≡ Ok (costs_of index.now) }
     {
         let tally = tally_of(rt, index, 0, index.lists(), index.total_postings(), workers);
+        Ok(Costs::of_tally(tally))
+    }
+
+    /// The costs of an index over all lists of which these are the sums.
+    pub fn of_tally(tally: Tally) -> Costs
+        ensures same { (index : IndexParts) → IsTallyOf tally index.lists
+            → result ≡ costs_of index }
+    {
         let postings = u128::from(tally.postings);
         let exponents = u128::from(tally.exponents);
-        Ok(Costs {
+        Costs {
             postings,
             gamma: 2 * exponents + postings,
             delta: exponents + 2 * u128::from(tally.lengths) + postings,
             bytes: u128::from(tally.groups) + postings,
-        })
+        }
     }
 }
 

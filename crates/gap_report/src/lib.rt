@@ -6,6 +6,7 @@ pub mod laws;
 mod tally;
 
 pub use costs::Costs;
+pub use tally::Tally;
 
 #[cfg(test)]
 mod tests;

@@ -1,4 +1,4 @@
-//! Sums over gaps, in 64 bits.
+//! Sums over gaps, in 64 bits, which grow list by list.
 ghost use Rattle.std.specs.Prelude.{◌≡◌, ◌+◌, ◌*◌, ◌<◌, ◌≤◌, ◌^◌, length};
 ghost use Rattle.gap_report.specs.Codes.{floor_log};
 
@@ -32,13 +32,14 @@ pub struct Tally {
 }
 
 impl Tally {
-    ghost use Rattle.std.specs.Prelude.{[], ◌∷◌, All, slice_range};
+    ghost use Rattle.std.specs.Prelude.{List, [], ◌∷◌, ◌++◌, All, slice_range};
     ghost use Rattle.std.specs.List.Sorted.{IsStrictlyIncreasing};
+    ghost use Rattle.rgb_base.specs.declared.parts.TermList.{TermList};
     ghost use Rattle.gap_report.specs.Codes.{docs_of, coded_gaps};
     ghost use Rattle.gap_report.specs.Tally.{Adds, IsTallyOf, IsSumOf};
 
     /// Before any gap.
-    fn none() -> Tally
+    pub fn none() -> Tally
         ensures { IsTallyOf result [] }
     {
         Tally {
@@ -66,12 +67,14 @@ impl Tally {
         }
     }
 
-    /// The sums with the gaps of a list.
-    fn with_list(self, postings: &[Posting]) -> Tally
+    /// The sums with the gaps of a list, whose postings these are.
+    pub fn with_list(self, postings: &[Posting]) -> Tally
         requires rising { IsStrictlyIncreasing (docs_of postings.now) }
         requires below { All (λ posting. posting.doc < 2 ^ 31) postings.now }
         requires room { self.postings + length postings.now < 2 ^ 32 }
-        ensures { Adds self result (coded_gaps postings.now) }
+        ensures adds { Adds self result (coded_gaps postings.now) }
+        ensures more { (lists : List TermList) (list : TermList) → IsTallyOf self lists
+            → list.postings ≡ postings.now → IsTallyOf result (lists ++ list ∷ []) }
     {
         let mut tally = self;
         let mut before = 0;

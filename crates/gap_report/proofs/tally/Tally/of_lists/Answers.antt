@@ -30,4 +30,4 @@ loop-list-preserved c =
     let postings = c.postings.result.now in
     let inside : list < length lists = omega (arith, c.loop-list-test.true, c.requires.within) in
     let found = postings_read lists list postings inside c.postings.ensures.same in
-    IsTallyOf-more lists c.args.from list postings c.loop-list.tally c.with_list-tally.result c.loop-list.auto.list inside found c.loop-list.invariant c.with_list-tally.ensures
+    IsTallyOf-more lists c.args.from list postings c.loop-list.tally c.with_list-tally.result c.loop-list.auto.list inside found c.loop-list.invariant c.with_list-tally.ensures.adds

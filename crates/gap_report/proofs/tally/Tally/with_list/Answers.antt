@@ -1,8 +1,9 @@
 use Rattle.std.proofs.Common.{◌+◌, ◌-◌, [], ◌∷◌, get_or, drop, subst, sym, arith}
 use Rattle.std.proofs.lemmas.List.{length-drop}
+use Rattle.gap_report.specs.Codes.{coded_gaps}
 use Rattle.gap_report.specs.Tally.{Adds}
 use Rattle.gap_report.proofs.Gaps.{gaps_after, gaps_after-drop, gaps_after-end, gaps_of_docs, length-gaps_after, no_posting}
-use Rattle.gap_report.proofs.Tallies.{IsOnTheWay, IsOnTheWay-start, IsOnTheWay-more, Adds-all, next_rises}
+use Rattle.gap_report.proofs.Tallies.{IsOnTheWay, IsOnTheWay-start, IsOnTheWay-more, Adds-all, IsTallyOf-push, next_rises}
 use Rattle.gap_report.proofs.tally.Tally.with_list.Goals as goal
 
 pub loop-posting-init : goal.loop-posting-init
@@ -35,10 +36,13 @@ loop-posting-preserved c =
       sums = IsOnTheWay-more c.args.self c.loop-posting.tally c.with_gap-tally.result (gaps_after 0 postings) left gap whole c.with_gap-tally.ensures;
     }
 
-pub returns : goal.returns
-returns c =
+pub returns-clause-adds : goal.returns-clause-adds
+returns-clause-adds c =
     let postings = c.args.postings.now in
     let i = c.loop-posting.posting-index in
     let ended = gaps_after-end c.loop-posting.before i postings c.loop-posting-test.false in
     let way : IsOnTheWay c.args.self c.loop-posting.tally (gaps_after 0 postings) [] = subst (IsOnTheWay c.args.self c.loop-posting.tally (gaps_after 0 postings)) ended c.loop-posting.invariant.sums in
     subst (Adds c.args.self c.loop-posting.tally) (sym (gaps_of_docs postings)) (Adds-all c.args.self c.loop-posting.tally (gaps_after 0 postings) way)
+
+pub returns-clause-more : goal.returns-clause-more
+returns-clause-more c = λ lists list before read. IsTallyOf-push lists list c.args.postings.now c.args.self c.loop-posting.tally read before (returns-clause-adds c)

@@ -1,1 +1,0 @@
-use Rattle.ciff_reader.proofs.list.fill.Goals as goal
