@@ -1,9 +1,8 @@
 -- Records one after another, to the last.
-use Rattle.std.proofs.Common.{◌≡◌, ◌≢◌, ◌⊎◌, inl, inr, ℕ, zero, suc, ◌+◌, ◌^◌, ◌<◌, ◌≤◌, Bool, true, false, eqb, List, [], ◌∷◌, ◌++◌, length, map, get_or, Some, None, refl, sym, ap, subst, ◌∙◌, arith, sum_by}
+use Rattle.std.proofs.Common.{◌≡◌, ◌≢◌, ◌⊎◌, inl, inr, ℕ, ◌+◌, ◌<◌, ◌≤◌, List, [], ◌∷◌, ◌++◌, length, get_or, Some, None, refl, sym, ap, subst, ◌∙◌, arith, sum_by}
 use Rattle.std.specs.Prelude.{slice_get}
-use Rattle.std.specs.Option.{IsSome}
-use Rattle.std.specs.List.{All, AllPairs, Contains, IsDistinct, list_any}
-use Rattle.std.proofs.lemmas.List.{length_push, length-append, map_push, length-map, get_or_default}
+use Rattle.std.specs.List.{All, AllPairs, Contains}
+use Rattle.std.proofs.lemmas.List.{length_push, length-map, get_or_default}
 use Rattle.std.proofs.lemmas.List.Sums.{sum_by-cons}
 use Rattle.std.proofs.lemmas.List.Elements.{All-nil, All-push, All-contains}
 use Rattle.std.proofs.lemmas.Map.Made.{IsDistinct-from_AllPairs}
@@ -14,13 +13,13 @@ use Rattle.std.proofs.lemmas.Bool.Decides.{Decides-eqb}
 use Rattle.std.proofs.lemmas.List.Quantifiers.{all_pairs_push}
 use Rattle.rgb_base.specs.declared.parts.DocRecord.{DocRecord}
 use Rattle.rgb_base.specs.declared.parts.TermList.{TermList}
-use Rattle.rgb_base.specs.Parts.{IndexParts, terms_of, text_size}
+use Rattle.rgb_base.specs.Parts.{terms_of, text_size}
 use Rattle.rgb_base.specs.Building.{Building, IsBuilding, IsWhole, parts_of}
 use Rattle.rgb_host.specs.Seen.{Seen}
 use Rattle.ciff_format.specs.Messages.{Numbered}
-use Rattle.ciff_format.specs.Accepted.{Front, numbers_of, with_record, HasLists, ExpectsRecord, ExpectsNothing, HasRecord}
+use Rattle.ciff_format.specs.Accepted.{Front, numbers_of, with_record, HasLists, ExpectsRecord, HasRecord}
 use Rattle.ciff_reader.specs.declared.waiting.Waiting.{Waiting}
-use Rattle.ciff_reader.specs.Awaited.{found, HasRead, HasReadAll, TakesRecord, EndsGood, with_lists}
+use Rattle.ciff_reader.specs.Awaited.{found, HasReadAll, TakesRecord, EndsGood, with_lists}
 use Rattle.ciff_reader.specs.Listing.{listing}
 use Rattle.ciff_reader.specs.Steps.{AtGood}
 use Rattle.ciff_reader.specs.Window.{Held}

@@ -1,8 +1,6 @@
-use Rattle.std.proofs.Common.{◌≡◌, ◌<◌, ℕ, List, length, refl, sym, ap, subst, ◌∙◌, arith}
-use Rattle.rgb_base.specs.declared.parts.TermList.{TermList}
-use Rattle.rgb_base.specs.Parts.{terms_of}
+use Rattle.std.proofs.Common.{◌≡◌, ℕ, length, refl, sym, subst, ◌∙◌, arith}
 use Rattle.ciff_format.specs.Refused.{Refused}
-use Rattle.ciff_format.specs.Accepted.{Front, ExpectsRecord}
+use Rattle.ciff_format.specs.Accepted.{ExpectsRecord}
 use Rattle.ciff_reader.specs.Awaited.{with_lists}
 use Rattle.ciff_reader.specs.Listing.{listing}
 use Rattle.ciff_reader.specs.Steps.{AtGood}

@@ -1,4 +1,4 @@
-use Rattle.std.proofs.Common.{◌≡◌, ◌<◌, ℕ, List, length, refl, sym, ap, ◌∙◌}
+use Rattle.std.proofs.Common.{◌≡◌, ◌<◌, ℕ, List, length, refl, ap, ◌∙◌}
 use Rattle.rgb_base.specs.declared.parts.TermList.{TermList}
 use Rattle.rgb_base.specs.Building.{parts_of}
 use Rattle.ciff_format.specs.Refused.{Refused}

@@ -1,10 +1,10 @@
-use Rattle.std.proofs.Common.{◌≡◌, ℕ, ℤ, ◌+◌, ◌<◌, ◌≤◌, pos, List, length, refl, sym, ap, subst, ◌∙◌, arith, rules}
+use Rattle.std.proofs.Common.{◌≡◌, ℤ, ◌<◌, ◌≤◌, pos, length, refl, sym, ap, ◌∙◌, arith, rules}
 use mir.Val.{SFits}
 use Rattle.std.specs.Int.{w32}
 use Rattle.std.proofs.lemmas.Int.{to_z-of_z}
 use Rattle.std.proofs.lemmas.Bool.{false≢true}
 use Rattle.rgb_base.specs.declared.parts.DocRecord.{DocRecord}
-use Rattle.ciff_format.specs.Fields.{int32_at, text_at}
+use Rattle.ciff_format.specs.Fields.{int32_at}
 use Rattle.ciff_format.specs.Messages.{Numbered, document_of}
 use Rattle.ciff_format.specs.Refused.{IsBadNumber}
 use Rattle.ciff_reader.proofs.HeaderFields.{natural}

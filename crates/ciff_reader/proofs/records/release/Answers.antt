@@ -1,9 +1,8 @@
-use Rattle.std.proofs.Common.{◌≡◌, ◌≢◌, ℕ, ◌+◌, ◌≤◌, length, Some, subst, sym, ap, ◌∙◌, arith, rules}
+use Rattle.std.proofs.Common.{sym, ap, ◌∙◌, rules}
 use mir.Val.{SFits}
 use Rattle.std.specs.Int.{w32}
 use Rattle.std.proofs.lemmas.Int.{to_z-of_z}
 use Rattle.rgb_base.specs.Building.{Building}
-use Rattle.ciff_reader.specs.Awaited.{found}
 use Rattle.ciff_reader.proofs.Placing.{no_turn, turn, later_turn, pushed}
 use Rattle.ciff_reader.proofs.records.release.Goals as goal
 
