@@ -99,7 +99,7 @@ pub no_turn : (front : Front) (building : Building) (before after : Waiting) (k 
 no_turn front building before after k none gone others read = record {
   header = read.header;
   documents = read.documents;
-  lists = read.lists;
+  terms = read.terms;
   none_open = read.none_open;
   placed = λ one there. by_place one (read.placed one there);
   standing = read.standing;
@@ -124,7 +124,7 @@ turn front building built before after document k turn_is here gone others is re
     subst (λ (b : Building). HasRead front b after) (sym is) (record {
       header = read.header;
       documents = read.documents;
-      lists = read.lists;
+      terms = read.terms;
       none_open = read.none_open;
       placed = λ one there. by_place one (read.placed one there);
       standing = λ n lt. by_turn n lt (cases_eq n k);
@@ -164,7 +164,7 @@ module _ (front : Front) (building : Building) (waiting : Waiting) (one : Number
   stands_next built now is = subst (λ (b : Building). HasRead (with_one front one) b waiting) (sym is) (record {
     header = read.header;
     documents = read.documents;
-    lists = read.lists;
+    terms = read.terms;
     none_open = read.none_open;
     placed = λ other there. by_case other (Contains-push_cases front.records one other there);
     standing = λ n lt. by_number n lt (cases_eq n one.number);
@@ -190,7 +190,7 @@ module _ (front : Front) (building : Building) (waiting : Waiting) (one : Number
   waits_now after new here others = record {
     header = read.header;
     documents = read.documents;
-    lists = read.lists;
+    terms = read.terms;
     none_open = read.none_open;
     placed = λ other there. by_case other (Contains-push_cases front.records one other there);
     standing = λ n lt. more_numbers n (read.standing n lt);

@@ -1,9 +1,9 @@
 -- Records one after another, to the last.
-use Rattle.std.proofs.Common.{◌≡◌, ◌≢◌, ◌⊎◌, inl, inr, ℕ, zero, suc, ◌+◌, ◌^◌, ◌<◌, ◌≤◌, Bool, true, false, eqb, List, [], ◌∷◌, ◌++◌, length, map, get_or, Some, None, refl, sym, ap, subst, ◌∙◌, arith}
+use Rattle.std.proofs.Common.{◌≡◌, ◌≢◌, ◌⊎◌, inl, inr, ℕ, ◌+◌, ◌<◌, ◌≤◌, List, [], ◌∷◌, ◌++◌, length, get_or, Some, None, refl, sym, ap, subst, ◌∙◌, arith, sum_by}
 use Rattle.std.specs.Prelude.{slice_get}
-use Rattle.std.specs.Option.{IsSome}
-use Rattle.std.specs.List.{All, AllPairs, Contains, IsDistinct, list_any}
-use Rattle.std.proofs.lemmas.List.{length_push, length-append, map_push, length-map, get_or_default}
+use Rattle.std.specs.List.{All, AllPairs, Contains}
+use Rattle.std.proofs.lemmas.List.{length_push, length-map, get_or_default}
+use Rattle.std.proofs.lemmas.List.Sums.{sum_by-cons}
 use Rattle.std.proofs.lemmas.List.Elements.{All-nil, All-push, All-contains}
 use Rattle.std.proofs.lemmas.Map.Made.{IsDistinct-from_AllPairs}
 use Rattle.std.proofs.lemmas.Map.Views.{Contains-from_any}
@@ -12,22 +12,24 @@ use Rattle.std.proofs.lemmas.Bool.{cases_lt, eqb-true}
 use Rattle.std.proofs.lemmas.Bool.Decides.{Decides-eqb}
 use Rattle.std.proofs.lemmas.List.Quantifiers.{all_pairs_push}
 use Rattle.rgb_base.specs.declared.parts.DocRecord.{DocRecord}
-use Rattle.rgb_base.specs.Parts.{IndexParts, posting_count, text_size}
+use Rattle.rgb_base.specs.declared.parts.TermList.{TermList}
+use Rattle.rgb_base.specs.Parts.{terms_of, text_size}
 use Rattle.rgb_base.specs.Building.{Building, IsBuilding, IsWhole, parts_of}
 use Rattle.rgb_host.specs.Seen.{Seen}
 use Rattle.ciff_format.specs.Messages.{Numbered}
-use Rattle.ciff_format.specs.Accepted.{Front, numbers_of, with_record, HasLists, ExpectsRecord, ExpectsNothing, HasRecord}
+use Rattle.ciff_format.specs.Accepted.{Front, numbers_of, with_record, HasLists, ExpectsRecord, HasRecord}
 use Rattle.ciff_reader.specs.declared.waiting.Waiting.{Waiting}
-use Rattle.ciff_reader.specs.Awaited.{found, HasRead, HasReadAll, TakesRecord, EndsGood}
+use Rattle.ciff_reader.specs.Awaited.{found, HasReadAll, TakesRecord, EndsGood, with_lists}
 use Rattle.ciff_reader.specs.Listing.{listing}
 use Rattle.ciff_reader.specs.Steps.{AtGood}
 use Rattle.ciff_reader.specs.Window.{Held}
 use Rattle.ciff_reader.proofs.Placing.{is_new, some_is, numbers_push, number_there, nothing_waits}
 
--- so many records are read, in each file in which the start is good
-pub record Reads (host : Seen) (name : List ℕ) (Starts : List ℕ → Type 0) (window : Held) (building : Building) (waiting : Waiting) (text count : ℕ) : Type 0 where
+-- so many records are read behind these lists, in each file in which the start is good
+pub record Reads (host : Seen) (name : List ℕ) (lists : List TermList) (Starts : List ℕ → Type 0) (window : Held) (building : Building) (waiting : Waiting) (text count : ℕ) : Type 0 where
   pub front : Front
-  pub lists : HasLists front
+  pub lists_are : front.lists ≡ lists
+  pub all_lists : HasLists front
   pub count_is : length front.records ≡ count
   pub read : HasReadAll front building waiting text
   pub different : AllPairs (λ a b. a ≢ b) (numbers_of front.records)
@@ -37,37 +39,49 @@ pub record Reads (host : Seen) (name : List ℕ) (Starts : List ℕ → Type 0) 
 no_numbers : {A : Type 0} → AllPairs (λ (a b : A). a ≢ b) []
 no_numbers i j d lt within = absurd (omega (arith, within))
 
-pub reads_begin : (host : Seen) (name : List ℕ) (window : Held) (building : Building) (waiting : Waiting) (text : ℕ) → building.postings ≡ [] → building.records ≡ []
-    → ((n : ℕ) → found waiting n ≡ None) → text ≡ text_size (parts_of building)
-    → Reads host name (AtGood host name window (listing (length building.lists) building)) window building waiting text 0
-reads_begin host name window building waiting text closed none nobody text_is = record {
-  front = listing (length building.lists) building;
-  lists = refl;
+-- the text of lists is that of their terms
+term_text : (lists : List TermList) → sum_by (λ (l : TermList). length l.term) lists ≡ sum_by (λ (term : List ℕ). length term) (terms_of lists)
+term_text [] = refl
+term_text (l ∷ lists) =
+    omega (arith, term_text lists, sum_by-cons (λ (one : TermList). length one.term) l lists, sum_by-cons (λ (term : List ℕ). length term) l.term (terms_of lists))
+
+same_text : (lists others : List TermList) → terms_of lists ≡ terms_of others → sum_by (λ (l : TermList). length l.term) lists ≡ sum_by (λ (l : TermList). length l.term) others
+same_text lists others same = term_text lists ∙ ap (λ (terms : List (List ℕ)). sum_by (λ (term : List ℕ). length term) terms) same ∙ sym (term_text others)
+
+pub reads_begin : (host : Seen) (name : List ℕ) (window : Held) (lists : List TermList) (building : Building) (waiting : Waiting) (text : ℕ) → building.postings ≡ [] → building.records ≡ []
+    → ((n : ℕ) → found waiting n ≡ None) → text ≡ text_size (parts_of building) → terms_of lists ≡ terms_of building.lists
+    → Reads host name lists (AtGood host name window (listing (length lists) (with_lists lists building))) window building waiting text 0
+reads_begin host name window lists building waiting text closed none nobody text_is same = record {
+  front = listing (length lists) (with_lists lists building);
+  lists_are = refl;
+  all_lists = refl;
   count_is = refl;
   read = record {
     read = record {
       header = refl;
       documents = refl;
-      lists = refl;
+      terms = same;
       none_open = closed;
       placed = λ one there. absurd (omega (arith, there.1));
       standing = λ n lt. absurd (omega (arith, lt, ap length none));
       waits = λ n some. absurd (nothing_waits waiting nobody n some);
     };
     later = λ n some. absurd (nothing_waits waiting nobody n some);
-    text_is = text_is ∙ ap (λ (ds : List DocRecord). text_size (record { header = building.header; lists = building.lists; documents = ds })) none;
+    text_is = text_is ∙ ap (λ (ds : List DocRecord). text_size (record { header = building.header; lists = building.lists; documents = ds })) none
+        ∙ ap (λ (n : ℕ). length building.header.description + n + 0) (sym (same_text lists building.lists same));
   };
   different = no_numbers;
   below = All-nil (λ n. n < building.documents);
   at = λ file at. at;
 }
 
-pub reads_go_on : (host mid : Seen) (name : List ℕ) (Starts : List ℕ → Type 0) (window after : Held) (before building : Building) (waited waiting : Waiting) (text more count : ℕ) → mid ≡ host
-    → (reads : Reads host name Starts window before waited text count) → TakesRecord mid name window after reads.front building waiting more
-    → Reads host name Starts after building waiting more (count + 1)
-reads_go_on host mid name Starts window after before building waited waiting text more count same reads takes = record {
+pub reads_go_on : (host mid : Seen) (name : List ℕ) (lists : List TermList) (Starts : List ℕ → Type 0) (window after : Held) (before building : Building) (waited waiting : Waiting) (text more count : ℕ) → mid ≡ host
+    → (reads : Reads host name lists Starts window before waited text count) → TakesRecord mid name window after reads.front building waiting more
+    → Reads host name lists Starts after building waiting more (count + 1)
+reads_go_on host mid name lists Starts window after before building waited waiting text more count same reads takes = record {
   front = with_record reads.front takes.one;
-  lists = reads.lists;
+  lists_are = reads.lists_are;
+  all_lists = reads.all_lists;
   count_is = length_push reads.front.records takes.one ∙ ap (λ (n : ℕ). n + 1) reads.count_is;
   read = takes.read;
   different = subst (AllPairs (λ a b. a ≢ b)) (sym (numbers_push reads.front.records takes.one))
@@ -95,8 +109,8 @@ few numbers n k apart below new lt =
           (λ q is. All-contains (λ m. m < n) all q small (Contains-from_any eqb-true q all is)),
     )
 
-module _ (host : Seen) (name : List ℕ) (Starts : List ℕ → Type 0) (window : Held) (building : Building) (waiting : Waiting) (text : ℕ)
-    (reads : Reads host name Starts window building waiting text building.documents) (sound : IsBuilding building) where
+module _ (host : Seen) (name : List ℕ) (lists : List TermList) (Starts : List ℕ → Type 0) (window : Held) (building : Building) (waiting : Waiting) (text : ℕ)
+    (reads : Reads host name lists Starts window building waiting text building.documents) (sound : IsBuilding building) where
   pub stand_all : length building.records ≡ building.documents
   stand_all = by_cases (cases_lt (length building.records) building.documents)
     where
@@ -116,13 +130,13 @@ module _ (host : Seen) (name : List ℕ) (Starts : List ℕ → Type 0) (window 
   pub ends_whole : IsWhole building
   ends_whole = record { none_open = reads.read.read.none_open; recorded = stand_all }
 
-  pub ends_good : (file : List ℕ) → Starts file → EndsGood host name window building file
+  pub ends_good : (file : List ℕ) → Starts file → EndsGood host name window (with_lists lists building) file
   ends_good file starts = record {
     front = reads.front;
     at = reads.at file starts;
-    whole = (reads.lists, reads.count_is ∙ sym reads.read.read.documents);
+    whole = (reads.all_lists, reads.count_is ∙ sym reads.read.read.documents);
     header = sym reads.read.read.header;
-    lists = sym reads.read.read.lists;
+    lists = sym reads.lists_are;
     count = stand_all ∙ sym reads.read.read.documents;
     documents = λ k d lt. let one = get_or reads.front.records k d in let there : Contains reads.front.records one = (k, lt, get_or_default reads.front.records k one d lt) in stands one there (reads.read.read.placed one there);
   }
@@ -138,7 +152,7 @@ module _ (host : Seen) (name : List ℕ) (Starts : List ℕ → Type 0) (window 
             All-contains (λ n. n < reads.front.document_count) (numbers_of reads.front.records) one.number reads.below (number_there reads.front.records one there),
           ))
 
-pub reads_expect : (host : Seen) (name : List ℕ) (Starts : List ℕ → Type 0) (window : Held) (building : Building) (waiting : Waiting) (text count documents : ℕ)
-    → (reads : Reads host name Starts window building waiting text count) → building.documents ≡ documents → count < documents → ExpectsRecord reads.front
-reads_expect host name Starts window building waiting text count documents reads same lt =
-    (reads.lists, omega (arith, reads.count_is, reads.read.read.documents, same, lt))
+pub reads_expect : (host : Seen) (name : List ℕ) (lists : List TermList) (Starts : List ℕ → Type 0) (window : Held) (building : Building) (waiting : Waiting) (text count documents : ℕ)
+    → (reads : Reads host name lists Starts window building waiting text count) → building.documents ≡ documents → count < documents → ExpectsRecord reads.front
+reads_expect host name lists Starts window building waiting text count documents reads same lt =
+    (reads.all_lists, omega (arith, reads.count_is, reads.read.read.documents, same, lt))

@@ -1,11 +1,12 @@
 -- Records in any order, put into an index that takes them by rising number: what comes too early
 -- waits.
-use Rattle.std.specs.Prelude.{◌≡◌, ◌≢◌, ◌⊎◌, ℕ, ◌+◌, ◌^◌, ◌<◌, ◌≤◌, List, [], ◌∷◌, ◌++◌, length, pos, Option, Some, None, IsSome, slice_get, Contains, All}
+use Rattle.std.specs.Prelude.{◌≡◌, ◌≢◌, ◌⊎◌, ℕ, ◌+◌, ◌^◌, ◌<◌, ◌≤◌, List, [], length, pos, Option, Some, IsSome, slice_get, Contains, All}
 use Rattle.std.specs.Ordering.{nat_cmp}
 use Rattle.std.specs.BTreeMap.{get}
 use Rattle.ciff_wire.specs.Field.{Entry}
 use Rattle.rgb_base.specs.declared.parts.DocRecord.{DocRecord}
-use Rattle.rgb_base.specs.Parts.{AreSized, text_size}
+use Rattle.rgb_base.specs.declared.parts.TermList.{TermList}
+use Rattle.rgb_base.specs.Parts.{AreSized, terms_of, posting_count, text_size}
 use Rattle.rgb_base.specs.Building.{Building, parts_of}
 use Rattle.rgb_host.specs.Seen.{Seen}
 use Rattle.ciff_reader.specs.Window.{Held}
@@ -29,11 +30,12 @@ IsPlaced building waiting one =
     (slice_get building.records one.number ≡ Some one.document)
     ⊎ (found waiting one.number ≡ Some one.document)
 
--- the messages say what stands in the index and what waits, and nothing else is there
+-- the messages say what stands in the index and what waits, and nothing else is there; of the lists
+-- only the terms count here, so that those in the index may have no postings
 pub record HasRead (front : Front) (building : Building) (waiting : Waiting) : Type 0 where
   pub header : front.header ≡ building.header
   pub documents : front.document_count ≡ building.documents
-  pub lists : front.lists ≡ building.lists
+  pub terms : terms_of front.lists ≡ terms_of building.lists
   pub none_open : building.postings ≡ []
   pub placed : (one : Numbered) → Contains front.records one → IsPlaced building waiting one
   pub standing : (n : ℕ) → n < length building.records → Contains (numbers_of front.records) n
@@ -61,14 +63,20 @@ pub record IsNextRecord (message : List ℕ) (front : Front) (one : Numbered) : 
   pub new_number : ¬ Contains (numbers_of front.records) one.number
   pub sized : AreSized (with_document (parts_so_far front) one.document)
 
--- one more record is read
+-- one more record is read, next behind the front where its postings aren't too many
 pub record HasOneMoreRecord (message : List ℕ) (front : Front) (building : Building)
     (waiting : Waiting) (text : ℕ) : Type 0 where
   pub one : Numbered
-  pub next : IsNextRecord message front one
+  pub new_number : ¬ Contains (numbers_of front.records) one.number
+  pub below : one.number < front.document_count
+  pub next : posting_count front.lists < 2 ^ 32 → IsNextRecord message front one
   pub read : HasReadAll (with_record front one) building waiting text
 
 -- ---- the file
+
+-- with these lists in place of its own
+abbrev pub with_lists : List TermList → Building → Building
+with_lists lists building = record building { lists = lists }
 
 -- one more record is taken off the window, and is good in each file in which the front is
 pub record TakesRecord (host : Seen) (name : List ℕ) (before after : Held) (front : Front)

@@ -1,9 +1,11 @@
 //! Reading the records of a file off its window, to the last.
 ghost use Rattle.std.specs.Prelude.{◌≡◌, ℕ, ◌^◌, ◌≤◌, List, [], length, IfErr, OnOk};
+ghost use Rattle.rgb_base.specs.declared.parts.TermList.{TermList};
+ghost use Rattle.rgb_base.specs.Parts.{terms_of};
 ghost use Rattle.rgb_base.specs.Building.{IsWhole};
 ghost use Rattle.ciff_format.specs.Accepted.{Front, ExpectsRecord};
 ghost use Rattle.ciff_format.specs.Refused.{Refused};
-ghost use Rattle.ciff_reader.specs.Awaited.{HasReadAll, TakesRecord, EndsGood};
+ghost use Rattle.ciff_reader.specs.Awaited.{HasReadAll, TakesRecord, EndsGood, with_lists};
 ghost use Rattle.ciff_reader.specs.Listing.{listing};
 ghost use Rattle.ciff_reader.specs.Steps.{AtGood};
 ghost use Rattle.ciff_reader.specs.Window.{ExplainsWhere};
@@ -30,6 +32,7 @@ fn take_record<H: Host>(
 ) -> Result<(), ReadError>
     requires little { text.old ≤ 2 ^ 40 }
     ensures little { OnOk result (text.new ≤ 2 ^ 40) }
+    ensures lists { OnOk result (builder.new.lists ≡ builder.old.lists) }
     ensures documents { OnOk result (builder.new.documents ≡ builder.old.documents) }
     ensures ok { OnOk result ((front : Front) → ExpectsRecord front
         → HasReadAll front builder.old waiting.old text.old
@@ -63,7 +66,8 @@ fn take_record<H: Host>(
     Ok(())
 }
 
-/// Reads the records of all documents.
+/// Reads the records of all documents. The messages may have said other lists than the index has,
+/// with the same terms.
 pub(crate) fn read_records<H: Host>(
     alloc: Global,
     window: &mut Window,
@@ -74,14 +78,17 @@ pub(crate) fn read_records<H: Host>(
     requires none_open { builder.old.postings ≡ [] }
     requires no_record { builder.old.records ≡ [] }
     ensures whole { OnOk result (IsWhole builder.new) }
-    ensures ok { OnOk result ((file : List ℕ)
+    ensures lists { OnOk result (builder.new.lists ≡ builder.old.lists) }
+    ensures ok { OnOk result ((lists : List TermList) (file : List ℕ)
+        → terms_of lists ≡ terms_of builder.old.lists
         → AtGood (H.seen host.old) name.now window.old
-        (listing (length builder.old.lists) builder.old) file
-        → EndsGood (H.seen host.old) name.now window.new builder.new file) }
+        (listing (length lists) (with_lists lists builder.old)) file
+        → EndsGood (H.seen host.old) name.now window.new (with_lists lists builder.new) file) }
     ensures same { OnOk result (H.seen host.new ≡ H.seen host.old) }
-    ensures error { IfErr result (λ error.
-        ExplainsWhere (AtGood (H.seen host.old) name.now window.old
-        (listing (length builder.old.lists) builder.old))
+    ensures error { IfErr result (λ error. (lists : List TermList)
+        → terms_of lists ≡ terms_of builder.old.lists
+        → ExplainsWhere (AtGood (H.seen host.old) name.now window.old
+        (listing (length lists) (with_lists lists builder.old)))
         Refused error name.now (H.seen host.old) (H.seen host.new)) }
 {
     builder.is_sound();

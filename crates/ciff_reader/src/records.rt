@@ -18,6 +18,7 @@ use std::alloc::Global;
 fn release(builder: &mut IndexBuilder, waiting: &mut Waiting) -> Result<(), OutOfMemory>
     ensures read { OnOk result ((front : Front) → WaitsFrom (length builder.old.records) waiting.old
         → HasRead front builder.old waiting.old → HasRead front builder.new waiting.new) }
+    ensures lists { OnOk result (builder.new.lists ≡ builder.old.lists) }
     ensures documents { OnOk result (builder.new.documents ≡ builder.old.documents) }
     ensures later { OnOk result (WaitsFrom (length builder.old.records) waiting.old
         → WaitsFrom (length builder.new.records + 1) waiting.new) }
@@ -47,6 +48,7 @@ fn place_record(
         → WaitsFrom (length builder.old.records + 1) waiting.old
         → HasRead front builder.old waiting.old
         → HasRead (with_record front one) builder.new waiting.new) }
+    ensures lists { OnOk result (builder.new.lists ≡ builder.old.lists) }
     ensures documents { OnOk result (builder.new.documents ≡ builder.old.documents) }
     ensures later { OnOk result (length builder.old.records ≤ number
         → WaitsFrom (length builder.old.records + 1) waiting.old
@@ -72,6 +74,7 @@ pub(crate) fn put_record(
 ) -> Result<(), Refusal>
     requires little { text.old ≤ 2 ^ 40 }
     ensures little { OnOk result (text.new ≤ 2 ^ 40) }
+    ensures lists { OnOk result (builder.new.lists ≡ builder.old.lists) }
     ensures documents { OnOk result (builder.new.documents ≡ builder.old.documents) }
     ensures ok { OnOk result ((front : Front)
         → HasReadAll front builder.old waiting.old text.old
@@ -80,7 +83,6 @@ pub(crate) fn put_record(
         → HasReadAll front builder.old waiting.old text.old
         → IsRefusal (IsRecordFault front message.now) refusal) }
 {
-    builder.is_sound();
     let Some(kept) = read_record(message) else {
         return Err(Refusal::Cause(Cause::BadField));
     };

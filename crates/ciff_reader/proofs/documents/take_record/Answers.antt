@@ -1,4 +1,4 @@
-use Rattle.std.proofs.Common.{◌≡◌, ℕ, ◌+◌, ◌-◌, take, drop, ◌∙◌, sym, refl, subst}
+use Rattle.std.proofs.Common.{◌+◌, ◌-◌, take, drop, subst}
 use Rattle.ciff_format.specs.Refused.{IsRecordFault}
 use Rattle.ciff_reader.specs.declared.error.Refusal.{Refusal}
 use Rattle.ciff_reader.specs.Listing.{IsRefusal}
@@ -29,10 +29,10 @@ returns-clause-ok g c = λ front expects all.
     record {
       one = more.one;
       read = more.read;
-      new_number = more.next.new_number;
-      below = more.next.below;
+      new_number = more.new_number;
+      below = more.below;
       at = λ file at.
           record_taken c.messages_grow.ensures.record (g.H.Host.seen c.args.host.now) c.args.name.now c.args.window.now mid c.advance.new.self front more.one file _ span
           expects at c.in-Ok.ensures.place (c.in-Ok.ensures.at file at.opens) c.in-Ok.ensures.span (slice_is c.bytes.result.now mid.bytes span.from span.size c.bytes.ensures.same)
-          more.next c.advance.ensures;
+          (more.next at.good.rules.sized.postings) c.advance.ensures;
     }

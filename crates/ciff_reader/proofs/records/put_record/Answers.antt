@@ -1,12 +1,10 @@
-use Rattle.std.proofs.Common.{◌≡◌, ℕ, ℤ, ◌+◌, ◌<◌, ◌≤◌, pos, List, length, refl, sym, ap, subst, ◌∙◌, arith, rules}
+use Rattle.std.proofs.Common.{◌≡◌, ℤ, ◌<◌, ◌≤◌, pos, length, refl, sym, ap, ◌∙◌, arith, rules}
 use mir.Val.{SFits}
 use Rattle.std.specs.Int.{w32}
 use Rattle.std.proofs.lemmas.Int.{to_z-of_z}
 use Rattle.std.proofs.lemmas.Bool.{false≢true}
 use Rattle.rgb_base.specs.declared.parts.DocRecord.{DocRecord}
-use Rattle.rgb_base.specs.declared.parts.TermList.{TermList}
-use Rattle.rgb_base.specs.Parts.{posting_count}
-use Rattle.ciff_format.specs.Fields.{int32_at, text_at}
+use Rattle.ciff_format.specs.Fields.{int32_at}
 use Rattle.ciff_format.specs.Messages.{Numbered, document_of}
 use Rattle.ciff_format.specs.Refused.{IsBadNumber}
 use Rattle.ciff_reader.proofs.HeaderFields.{natural}
@@ -60,7 +58,9 @@ returns-in-Ok-place_record-clause-ok c = λ front all.
     let new = is_new front c.args.builder.now c.args.waiting.now all.read n late (λ there. false≢true (c.if-has.ensures.same.1 there)) in
     record {
       one = one;
-      next = record {
+      new_number = new;
+      below = omega (arith, low, all.read.documents);
+      next = λ few. record {
         fields = read.fields;
         read = read.read;
         texts = read.says.texts.0 c.if-not-kept.false;
@@ -69,7 +69,7 @@ returns-in-Ok-place_record-clause-ok c = λ front all.
         document_is = same_document c.in-Some.kept.name.now c.in-Some.kept.length read.fields (read.says.name c.if-not-kept.false) read.says.length;
         new_number = new;
         sized = record {
-          postings = omega (arith, c.is_sound.ensures.sound.few_postings, ap posting_count all.read.lists);
+          postings = few;
           text = omega (arith, one_more_text front document, all.text_is, c.if-text-kept.false, c.requires.little);
         };
       };
