@@ -2,6 +2,7 @@
 #![tactic(auto)]
 
 mod content;
+mod costs;
 mod documents;
 mod end;
 mod error;
@@ -23,6 +24,7 @@ mod short_record;
 mod waiting;
 mod window;
 
+pub use costs::{IndexCosts, read_costs};
 pub use error::ReadError;
 pub use read::read_index;
 
