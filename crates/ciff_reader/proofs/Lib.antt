@@ -16,4 +16,5 @@ pub mod Frames
 pub mod Steps
 pub mod Placing
 pub mod Readings
+pub mod Counting
 pub mod Whole

@@ -45,7 +45,7 @@ term_text [] = refl
 term_text (l ∷ lists) =
     omega (arith, term_text lists, sum_by-cons (λ (one : TermList). length one.term) l lists, sum_by-cons (λ (term : List ℕ). length term) l.term (terms_of lists))
 
-same_text : (lists others : List TermList) → terms_of lists ≡ terms_of others → sum_by (λ (l : TermList). length l.term) lists ≡ sum_by (λ (l : TermList). length l.term) others
+pub same_text : (lists others : List TermList) → terms_of lists ≡ terms_of others → sum_by (λ (l : TermList). length l.term) lists ≡ sum_by (λ (l : TermList). length l.term) others
 same_text lists others same = term_text lists ∙ ap (λ (terms : List (List ℕ)). sum_by (λ (term : List ℕ). length term) terms) same ∙ sym (term_text others)
 
 pub reads_begin : (host : Seen) (name : List ℕ) (window : Held) (lists : List TermList) (building : Building) (waiting : Waiting) (text : ℕ) → building.postings ≡ [] → building.records ≡ []

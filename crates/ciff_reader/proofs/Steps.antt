@@ -59,7 +59,7 @@ says_fault IsWrong file place BadDoc message next cut long stands wrong = (messa
 says_fault IsWrong file place Trailing message next cut long stands wrong = (message, next, stands, wrong)
 says_fault IsWrong file place TooMuch message next cut long stands wrong = (message, next, stands, wrong)
 
-good_here : (host : Seen) (name : List ℕ) (window : Held) (front : Front) (file : List ℕ) (place : ℕ) → AtGood host name window front file → place ≡ window.place → Good file place front
+pub good_here : (host : Seen) (name : List ℕ) (window : Held) (front : Front) (file : List ℕ) (place : ℕ) → AtGood host name window front file → place ≡ window.place → Good file place front
 good_here host name window front file place at same = subst (λ (p : ℕ). Good file p front) (sym same) at.good
 
 -- ---- lists

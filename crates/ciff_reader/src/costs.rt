@@ -1,11 +1,18 @@
 //! Counting what the gaps of a file's index cost, of which no posting is kept.
 ghost use Rattle.std.specs.Prelude.{◌≡◌, ℕ, List, IfOk, IfErr, OnOk};
+ghost use Rattle.ciff_format.specs.Refused.{Refused};
 ghost use Rattle.ciff_reader.specs.Reading.{OfFile, Explains};
 ghost use Rattle.ciff_reader.specs.Counting.{CountsFile};
+ghost use Rattle.ciff_reader.specs.Window.{Opens, ExplainsWhere};
 
+use crate::counted::count_lists;
+use crate::documents::read_records;
+use crate::end::expect_end;
 use crate::error::ReadError;
-use crate::read::read_index;
-use gap_report::{Costs, Tally};
+use crate::read::take_heading;
+use crate::window::Window;
+use gap_report::Costs;
+use rgb_base::IndexBuilder;
 use rgb_host::Host;
 use std::alloc::Global;
 
@@ -28,14 +35,51 @@ pub fn read_costs<H: Host>(alloc: Global, host: &mut H, name: &str) -> Result<In
     ensures error { IfErr result (λ error.
         Explains error name.now (H.seen host.old) (H.seen host.new)) }
 {
-    let index = match read_index(alloc, host, name) {
-        Ok(index) => index,
+    let mut window = Window::new(alloc)?;
+    match window.fill(host, name) {
+        Ok(_) => {}
+        Err(error) => return Err(error),
+    }
+    count_file(alloc, &mut window, host, name)
+}
+
+/// Counts a whole file, of which nothing was let go yet.
+fn count_file<H: Host>(
+    alloc: Global,
+    window: &mut Window,
+    host: &mut H,
+    name: &str,
+) -> Result<IndexCosts, ReadError>
+    requires { window.old.place ≡ 0 }
+    ensures ok { IfOk result (λ counted. (file : List ℕ)
+        → Opens (H.seen host.old) name.now window.old file → CountsFile file counted) }
+    ensures same { OnOk result (H.seen host.new ≡ H.seen host.old) }
+    ensures error { IfErr result (λ error.
+        ExplainsWhere (Opens (H.seen host.old) name.now window.old)
+        Refused error name.now (H.seen host.old) (H.seen host.new)) }
+{
+    let heading = match take_heading(alloc, window, host, name) {
+        Ok(heading) => heading,
         Err(error) => return Err(error),
     };
-    let tally = Tally::of_lists(&index, 0, index.lists());
-    Ok(IndexCosts {
-        documents: index.documents(),
-        lists: index.lists(),
-        costs: Costs::of_tally(tally),
-    })
+    let lists = heading.lists;
+    let Ok(mut builder) = IndexBuilder::new(alloc, heading.header, heading.documents) else {
+        return Err(ReadError::OutOfMemory);
+    };
+    let tally = match count_lists(alloc, lists, window, &mut builder, host, name) {
+        Ok(tally) => tally,
+        Err(error) => return Err(error),
+    };
+    match read_records(alloc, window, &mut builder, host, name) {
+        Ok(()) => {}
+        Err(error) => return Err(error),
+    }
+    match expect_end(window, host, name) {
+        Ok(()) => Ok(IndexCosts {
+            documents: builder.documents(),
+            lists: builder.lists(),
+            costs: Costs::of_tally(tally),
+        }),
+        Err(error) => Err(error),
+    }
 }

@@ -3,6 +3,7 @@
 
 mod content;
 mod costs;
+mod counted;
 mod documents;
 mod end;
 mod error;

@@ -60,7 +60,7 @@ impl<'a> ListFields<'a> {
     }
 
     /// Closes the open list as one of these fields, or says what is wrong with it.
-    fn close(self, gaps: Gaps, builder: &mut IndexBuilder) -> Result<(), Refusal>
+    pub(crate) fn close(self, gaps: Gaps, builder: &mut IndexBuilder) -> Result<(), Refusal>
         requires few { length builder.old.lists + 1 < 2 ^ 31 }
         ensures ok { OnOk result (Closes self.entry gaps builder.old builder.new) }
         ensures fault { IfErr result (IsCloseFault self.entry gaps builder.old) }
@@ -95,7 +95,7 @@ impl<'a> ListFields<'a> {
 /// Reads a list's message: what its own fields say, and what its postings do, which stand in the
 /// open list then. What a refusal leaves there is free. `room` holds postings until they are pushed
 /// together.
-fn read_fields<'a>(
+pub(crate) fn read_fields<'a>(
     message: &'a [u8],
     room: &mut [Posting],
     pending: &mut OpenList,

@@ -16,7 +16,7 @@ use rgb_host::Host;
 use std::alloc::Global;
 
 /// How many postings at most are pushed together.
-const TOGETHER: usize = 256;
+pub(crate) const TOGETHER: usize = 256;
 
 /// Reads the list that comes next, and closes it behind the others.
 fn take_list<H: Host>(

@@ -40,7 +40,7 @@ pub fn read_index<H: Host>(alloc: Global, host: &mut H, name: &str) -> Result<In
 }
 
 /// Reads the header that stands at the front of a file.
-fn take_heading<H: Host>(
+pub(crate) fn take_heading<H: Host>(
     alloc: Global,
     window: &mut Window,
     host: &mut H,

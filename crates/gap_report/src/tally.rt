@@ -73,6 +73,7 @@ impl Tally {
         requires below { All (λ posting. posting.doc < 2 ^ 31) postings.now }
         requires room { self.postings + length postings.now < 2 ^ 32 }
         ensures adds { Adds self result (coded_gaps postings.now) }
+        ensures count { result.postings ≡ self.postings + length postings.now }
         ensures more { (lists : List TermList) (list : TermList) → IsTallyOf self lists
             → list.postings ≡ postings.now → IsTallyOf result (lists ++ list ∷ []) }
     {

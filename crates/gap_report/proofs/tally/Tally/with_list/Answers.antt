@@ -1,4 +1,4 @@
-use Rattle.std.proofs.Common.{◌+◌, ◌-◌, [], ◌∷◌, get_or, drop, subst, sym, arith}
+use Rattle.std.proofs.Common.{◌+◌, ◌-◌, [], ◌∷◌, get_or, drop, subst, sym, ap, length, arith}
 use Rattle.std.proofs.lemmas.List.{length-drop}
 use Rattle.gap_report.specs.Codes.{coded_gaps}
 use Rattle.gap_report.specs.Tally.{Adds}
@@ -43,6 +43,11 @@ returns-clause-adds c =
     let ended = gaps_after-end c.loop-posting.before i postings c.loop-posting-test.false in
     let way : IsOnTheWay c.args.self c.loop-posting.tally (gaps_after 0 postings) [] = subst (IsOnTheWay c.args.self c.loop-posting.tally (gaps_after 0 postings)) ended c.loop-posting.invariant.sums in
     subst (Adds c.args.self c.loop-posting.tally) (sym (gaps_of_docs postings)) (Adds-all c.args.self c.loop-posting.tally (gaps_after 0 postings) way)
+
+pub returns-clause-count : goal.returns-clause-count
+returns-clause-count c =
+    let postings = c.args.postings.now in
+    omega (arith, (returns-clause-adds c).postings, ap length (gaps_of_docs postings), length-gaps_after 0 postings)
 
 pub returns-clause-more : goal.returns-clause-more
 returns-clause-more c = λ lists list before read. IsTallyOf-push lists list c.args.postings.now c.args.self c.loop-posting.tally read before (returns-clause-adds c)

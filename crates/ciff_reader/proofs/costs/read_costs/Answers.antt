@@ -1,0 +1,29 @@
+use Rattle.std.proofs.Common.{◌≡◌, ℕ, List, refl, sym, ◌∙◌}
+use Rattle.std.proofs.lemmas.Result.{IfErr-weaker}
+use Rattle.ciff_format.specs.Refused.{Refused}
+use Rattle.ciff_reader.specs.Counting.{CountsFile}
+use Rattle.ciff_reader.specs.Window.{Opens, ExplainsWhere}
+use Rattle.ciff_reader.proofs.Windows.{if_then, of_file, still_file}
+use Rattle.ciff_reader.proofs.Whole.{window_begins, explains}
+use Rattle.ciff_reader.proofs.costs.read_costs.Goals as goal
+
+pub returns-clause-ok : goal.returns-clause-ok
+returns-clause-ok g c =
+    let seen = g.H.Host.seen in
+    if_then c.count_file.result (λ counted. (file : List ℕ) → Opens (seen c.fill.new.host) c.args.name.now c.fill.new.self file → CountsFile file counted) _
+    (λ counted counts.
+    of_file (seen c.args.host.now) c.args.name.now (λ file. CountsFile file counted) c.in-Ok.ensures.there
+    (λ file is. counts file (record {
+      is = still_file (seen c.args.host.now) (seen c.fill.new.host) c.args.name.now file c.in-Ok.ensures.same is;
+      at = c.in-Ok.ensures.at file is (window_begins _ file c.in_ok-window.ensures);
+    })))
+    c.count_file.ensures.ok
+
+pub returns-clause-error : goal.returns-clause-error
+returns-clause-error g c =
+    let seen = g.H.Host.seen in
+    IfErr-weaker c.count_file.result (λ error. ExplainsWhere (Opens (seen c.fill.new.host) c.args.name.now c.fill.new.self) Refused error c.args.name.now (seen c.fill.new.host) (seen c.count_file.new.host)) _
+    (λ error stops.
+    explains error c.args.name.now (seen c.args.host.now) (seen c.fill.new.host) (seen c.count_file.new.host) c.fill.new.self c.in-Ok.ensures.same c.in-Ok.ensures.there
+    (λ file is. c.in-Ok.ensures.at file is (window_begins _ file c.in_ok-window.ensures)) stops)
+    c.count_file.ensures.error

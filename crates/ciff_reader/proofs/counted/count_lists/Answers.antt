@@ -1,0 +1,50 @@
+use Rattle.std.proofs.Common.{◌≡◌, ◌<◌, ℕ, List, length, ◌∙◌, sym, ap, refl, subst, arith}
+use Rattle.rgb_base.specs.declared.parts.TermList.{TermList}
+use Rattle.rgb_base.specs.Building.{Building}
+use Rattle.gap_report.specs.Tally.{IsTallyOf}
+use Rattle.ciff_format.specs.Refused.{Refused}
+use Rattle.ciff_reader.specs.Counting.{AtCounted}
+use Rattle.ciff_reader.specs.Listing.{listing}
+use Rattle.ciff_reader.specs.Steps.{AtGood}
+use Rattle.ciff_reader.proofs.Frames.{explains_where}
+use Rattle.ciff_reader.proofs.Steps.{lists_go_on}
+use Rattle.ciff_reader.proofs.Counting.{still_counted}
+use Rattle.ciff_reader.proofs.counted.count_lists.Goals as goal
+
+pub take_counted-requires-clause-documents : goal.take_counted-requires-clause-documents
+take_counted-requires-clause-documents g c = c.loop-list.invariant.pending ∙ sym c.loop-list.invariant.documents
+
+pub returns-in-Err-clause-error : goal.returns-in-Err-clause-error
+returns-in-Err-clause-error g c =
+    let seen = g.H.Host.seen in
+    let name = c.args.name.now in
+    let count = c.args.count in
+    let l = c.loop-list in
+    let expected : length l.builder.lists < count = omega (arith, l.invariant.lists) in
+    explains_where (AtCounted (seen l.host) name l.window count l.builder l.tally) (AtGood (seen c.args.host.now) name c.args.window.now (listing count c.args.builder.now))
+    Refused Refused c.in-Err.error name (seen c.args.host.now) (seen l.host) (seen c.take_counted.new.host) l.invariant.same
+    (λ file at. still_counted (seen c.args.host.now) (seen l.host) name l.window count l.builder l.tally file l.invariant.same (l.invariant.at file at))
+    (λ file place cause at refused. refused) (c.in-Err.ensures.error count expected)
+
+pub loop-list-preserved : goal.loop-list-preserved
+loop-list-preserved g c =
+    let seen = g.H.Host.seen in
+    let name = c.args.name.now in
+    let count = c.args.count in
+    let l = c.loop-list in
+    let more = c.in-Ok.ensures.more in
+    let built = c.take_counted.new.builder in
+    let expected : length l.builder.lists < count = omega (arith, l.invariant.lists) in
+    record {
+      lists = lists_go_on c.args.builder.now l.builder built l.list l.invariant.lists more;
+      none_pending = ap (λ (b : Building). b.postings) c.in-Ok.ensures.pending ∙ l.invariant.none_pending;
+      pending = ap (λ (b : Building). b.documents) c.in-Ok.ensures.pending ∙ l.invariant.pending;
+      none_open = ap (λ (b : Building). b.postings) more.is;
+      no_record = ap (λ (b : Building). b.records) more.is ∙ l.invariant.no_record;
+      documents = ap (λ (b : Building). b.documents) more.is ∙ l.invariant.documents;
+      room = c.in-Ok.ensures.room;
+      at = λ file at.
+          still_counted (seen l.host) (seen c.args.host.now) name c.take_counted.new.window count built c.in-Ok.after file (sym l.invariant.same)
+          (c.in-Ok.ensures.ok count file expected (still_counted (seen c.args.host.now) (seen l.host) name l.window count l.builder l.tally file l.invariant.same (l.invariant.at file at)));
+      same = c.in-Ok.ensures.same ∙ l.invariant.same;
+    }
