@@ -92,110 +92,88 @@ fn failing_calls<R: Threads + Sync + AllocGlobal>(
     Ok(None)
 }
 
-// Whether each call can fail, whatever a call gives or takes at most.
-fn each_can_fail<R: Threads + Sync + AllocGlobal>(
+// Whether so many calls of the command can fail, whatever a call gives or takes at most; where it is
+// one byte, so many.
+fn can_fail<R: Threads + Sync + AllocGlobal>(
     rt: &R,
     command: Command<'_>,
     six: &[u8],
+    calls: Calls,
+    byte_by_byte: u64,
 ) -> Result<bool, Fail> {
     for most in MOSTS {
-        if failing_calls(rt, command, six, Calls::Reads, most)?.is_none()
-            || failing_calls(rt, command, six, Calls::Writes, most)?.is_none()
-        {
-            return Ok(false);
+        match failing_calls(rt, command, six, calls, most)? {
+            Some(count) if most > 1 || count == byte_by_byte => {}
+            _ => return Ok(false),
         }
     }
     Ok(true)
 }
 
+// Each command with how many of its reads and of its writes can fail, where a call gives or takes
+// one byte: a file's bytes and the read at its end, and a creation, written bytes and printed ones.
 #[test]
-fn each_call_of_copy(rt: HostRuntime) -> Result<(), Fail> {
-    let six = bytes_of(rt.alloc(), SIX)?;
-    let command = Command {
-        words: "copy in out",
-        queries: b"",
-        written: &six,
-        printed: "documents 6 lists 2 postings 6\n",
-    };
-    assert!(rt; each_can_fail(&rt, command, &six)?);
-    // One creation, 109 bytes and 31 printed ones, byte by byte.
-    assert_eq!(rt;
-        failing_calls(&rt, command, &six, Calls::Writes, 1)?,
-        Some(141)
-    );
-    Ok(())
-}
-
-#[test]
-fn each_call_of_report(rt: HostRuntime) -> Result<(), Fail> {
-    let six = bytes_of(rt.alloc(), SIX)?;
-    let command = Command {
-        words: "report in",
-        queries: b"",
-        written: b"",
-        printed: "documents 6 lists 2 postings 6\ngamma 12 delta 15 bytes 6\n",
-    };
-    assert!(rt; each_can_fail(&rt, command, &six)?);
-    // 57 printed bytes, byte by byte.
-    assert_eq!(rt;
-        failing_calls(&rt, command, &six, Calls::Writes, 1)?,
-        Some(57)
-    );
-    Ok(())
-}
-
-#[test]
-fn each_call_of_make(rt: HostRuntime) -> Result<(), Fail> {
-    let six = bytes_of(rt.alloc(), SIX)?;
-    let made = bytes_of(rt.alloc(), MADE_THREE)?;
-    let command = Command {
-        words: "make 3 out",
-        queries: b"",
-        written: &made,
-        printed: OF_MADE_THREE,
-    };
-    assert!(rt; each_can_fail(&rt, command, &six)?);
-    // It reads nothing.
-    assert_eq!(rt;
-        failing_calls(&rt, command, &six, Calls::Reads, 1)?,
-        Some(0)
-    );
-    Ok(())
-}
-
-#[test]
-fn each_call_of_reorder(rt: HostRuntime) -> Result<(), Fail> {
+fn each_call_of_each_command(rt: HostRuntime) -> Result<(), Fail> {
     let six = bytes_of(rt.alloc(), SIX)?;
     let reordered = bytes_of(rt.alloc(), SIX_REORDERED)?;
-    let command = Command {
-        words: "reorder in out --depth 1 --leaf 1",
-        queries: b"",
-        written: &reordered,
-        printed: "documents 6 lists 2 postings 6\nround 0 0 6 1 76672 -163200\n\
-            before gamma 12 delta 15 bytes 6\nafter gamma 10 delta 10 bytes 6\n",
-    };
-    assert!(rt; each_can_fail(&rt, command, &six)?);
-    Ok(())
-}
-
-#[test]
-fn each_call_of_query(rt: HostRuntime) -> Result<(), Fail> {
-    let six = bytes_of(rt.alloc(), SIX)?;
-    let command = Command {
-        words: "query in queries",
-        queries: b"a\nNOT a",
-        written: b"",
-        printed: "query 1 matches 3\n0 d0\n1 d1\n3 d3\nquery 2 matches 3\n2 d2\n4 d4\n5 d5\n",
-    };
-    assert!(rt; each_can_fail(&rt, command, &six)?);
-    // 66 printed bytes, byte by byte; 109 read ones and 7, and a read at the end of each file.
-    assert_eq!(rt;
-        failing_calls(&rt, command, &six, Calls::Writes, 1)?,
-        Some(66)
-    );
-    assert_eq!(rt;
-        failing_calls(&rt, command, &six, Calls::Reads, 1)?,
-        Some(118)
-    );
+    let made = bytes_of(rt.alloc(), MADE_THREE)?;
+    let table = [
+        (
+            Command {
+                words: "copy in out",
+                queries: b"",
+                written: &six,
+                printed: "documents 6 lists 2 postings 6\n",
+            },
+            109 + 1,
+            1 + 109 + 31,
+        ),
+        (
+            Command {
+                words: "report in",
+                queries: b"",
+                written: b"",
+                printed: "documents 6 lists 2 postings 6\ngamma 12 delta 15 bytes 6\n",
+            },
+            109 + 1,
+            57,
+        ),
+        (
+            Command {
+                words: "reorder in out --depth 1 --leaf 1",
+                queries: b"",
+                written: &reordered,
+                printed: "documents 6 lists 2 postings 6\nround 0 0 6 1 76672 -163200\n\
+                    before gamma 12 delta 15 bytes 6\nafter gamma 10 delta 10 bytes 6\n",
+            },
+            109 + 1,
+            1 + 109 + 124,
+        ),
+        (
+            Command {
+                words: "query in queries",
+                queries: b"a\nNOT a",
+                written: b"",
+                printed: "query 1 matches 3\n0 d0\n1 d1\n3 d3\n\
+                    query 2 matches 3\n2 d2\n4 d4\n5 d5\n",
+            },
+            109 + 1 + 7 + 1,
+            66,
+        ),
+        (
+            Command {
+                words: "make 3 out",
+                queries: b"",
+                written: &made,
+                printed: OF_MADE_THREE,
+            },
+            0,
+            1 + 962 + 111,
+        ),
+    ];
+    for (command, reads, writes) in table {
+        assert!(rt; can_fail(&rt, command, &six, Calls::Reads, reads)?);
+        assert!(rt; can_fail(&rt, command, &six, Calls::Writes, writes)?);
+    }
     Ok(())
 }
