@@ -9,7 +9,9 @@ use Rattle.ciff_format.specs.Canonical.{bytes_of}
 use Rattle.ciff_format.specs.Accepted.{Accepted}
 use Rattle.ciff_format.specs.Refused.{Refused}
 use Rattle.ciff_format.specs.declared.cause.Cause.{Cause}
+use Rattle.ciff_reader.specs.Counting.{AreCostsOf, CountsFile}
 use Rattle.ciff_reader.specs.Reading.{OfFile, Explains}
+use Rattle.ciff_reader.specs.declared.costs.IndexCosts.{IndexCosts}
 use Rattle.ciff_reader.specs.declared.error.ReadError.{ReadError}
 use Rattle.ciff_reader.specs.declared.error.ReadError.TheVariants as errors
 use Rattle.query_file.specs.Queries.{Numbered, AreQueries, IsTooLong, IsFirstFault}
@@ -81,34 +83,31 @@ copy_cut input output index text before read after holds is same cut =
 
 -- ---- report
 
-report_comes : (told : Option Files) (input : Word) (workers : ℕ) (index : IndexParts) → IfSome told (λ files. IsSomeAnd (get files input) (λ file. Accepted file index))
-    → IfSome told (λ files. ComesTo (report input workers) files (done (printing (report_text index))))
-report_comes None input workers index holds = tt
-report_comes (Some files) input workers index holds = (index, holds, refl)
+-- the index of which the costs were counted
+counted_index : (found : Option (List ℕ)) (counted : IndexCosts) → IsSomeAnd found (λ file. CountsFile file counted) → (index : IndexParts) × IsSomeAnd found (λ file. Accepted file index) × AreCostsOf counted index
+counted_index None counted holds = absurd holds
+counted_index (Some file) counted holds = (holds.index, holds.accepted, holds.costs)
 
-report_work : (input : Word) (workers : ℕ) (index : IndexParts) (text : List ℕ) (before : Seen) → OfFile before input (λ file. Accepted file index) → text ≡ report_text index
-    → MayComeTo (report input workers) before (done (printing text))
-report_work input workers index text before holds is =
-    subst (λ t. MayComeTo (report input workers) before (done (printing t))) (sym is) (report_comes before.files input workers index holds)
+-- the text tells what was counted
+abbrev pub TellsCosts : IndexCosts → List ℕ → Type 0
+TellsCosts counted text = (index : IndexParts) → AreCostsOf counted index → text ≡ report_text index
 
-pub reported : (input : Word) (workers : ℕ) (index : IndexParts) (text : List ℕ) (before read after : Seen) → OfFile before input (λ file. Accepted file index) → text ≡ report_text index → read ≡ before
+report_comes : (told : Option Files) (input : Word) (workers : ℕ) (counted : IndexCosts) (text : List ℕ) → IfSome told (λ files. IsSomeAnd (get files input) (λ file. CountsFile file counted)) → TellsCosts counted text
+    → IfSome told (λ files. ComesTo (report input workers) files (done (printing text)))
+report_comes None input workers counted text holds tells = tt
+report_comes (Some files) input workers counted text holds tells =
+    let one = counted_index (get files input) counted holds in
+    (one.0, one.1, ap printing (tells one.0 one.2))
+
+pub reported : (input : Word) (workers : ℕ) (counted : IndexCosts) (text : List ℕ) (before read after : Seen) → OfFile before input (λ file. CountsFile file counted) → TellsCosts counted text → read ≡ before
     → after ≡ delivered (printing text) read → Says Done (report input workers) before after
-reported input workers index text before read after holds is same stands =
-    (printing text, report_work input workers index text before holds is, stands ∙ ap (delivered (printing text)) same)
+reported input workers counted text before read after holds tells same stands =
+    (printing text, report_comes before.files input workers counted text holds tells, stands ∙ ap (delivered (printing text)) same)
 
-pub report_cut : (input : Word) (workers : ℕ) (index : IndexParts) (text : List ℕ) (before read after : Seen) → OfFile before input (λ file. Accepted file index) → text ≡ report_text index → read ≡ before
+pub report_cut : (input : Word) (workers : ℕ) (counted : IndexCosts) (text : List ℕ) (before read after : Seen) → OfFile before input (λ file. CountsFile file counted) → TellsCosts counted text → read ≡ before
     → IsCutOff (printing text) read after → Says WriteFault (report input workers) before after
-report_cut input workers index text before read after holds is same cut =
-    (printing text, report_work input workers index text before holds is, subst (λ host. IsCutOff (printing text) host after) same cut)
-
--- the workers lie in the option's range
-in_range : (values : List Word) (workers : ℕ) → OptionComesTo workers_option values workers → (0 < workers) × (workers ≤ 64)
-in_range [] workers is = (omega (arith, is), omega (arith, is))
-in_range (word ∷ []) workers means = (omega (arith, means.1), means.2)
-in_range (word ∷ other ∷ others) workers means = absurd means
-
-pub workers_in_range : (words : List Word) (input : Word) (workers : ℕ) → IsCommand words (report input workers) → (0 < workers) × (workers ≤ 64)
-workers_in_range words input workers line = in_range _ workers line.options.0
+report_cut input workers counted text before read after holds tells same cut =
+    (printing text, report_comes before.files input workers counted text holds tells, subst (λ host. IsCutOff (printing text) host after) same cut)
 
 -- ---- reorder
 

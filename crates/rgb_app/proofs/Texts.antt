@@ -1,7 +1,9 @@
--- The text of a reordering, of its parts.
+-- The texts that are printed, of their parts.
 use Rattle.std.proofs.Common.{◌≡◌, ℕ, List, ◌++◌, length, codes, decimal, Result, Ok, Err, IfOk, string_bytes, ap, sym, subst, ◌∙◌}
 use Rattle.rgb_base.specs.Parts.{IndexParts}
 use Rattle.cell_claims.specs.declared.trace.KeptRound.{KeptRound}
+use Rattle.ciff_reader.specs.Counting.{AreCostsOf}
+use Rattle.ciff_reader.specs.declared.costs.IndexCosts.{IndexCosts}
 use Rattle.gap_report.specs.declared.costs.Costs.{Costs}
 use Rattle.gap_report.specs.Costs.{costs_of}
 use Rattle.rgb_app.specs.Prepared.{text_of}
@@ -9,7 +11,15 @@ use Rattle.rgb_app.specs.declared.reordering.Reordered.{Reordered}
 use Rattle.command_words.specs.declared.reordering.Reordering.{Reordering}
 use Rattle.rgb_app.specs.Reordering.{IsReordered}
 use Rattle.rgb_app.specs.Summary.{IsSummary}
-use Rattle.rgb_app.specs.Text.{line_of, index_line, round_lines, kept_line, cost_lines, reorder_text}
+use Rattle.rgb_app.specs.Text.{line_of, index_words, index_line, cost_words, round_lines, kept_line, cost_lines, report_text, reorder_text}
+
+-- the lines of what was counted
+pub counted_text : (counted : IndexCosts) (index : IndexParts) → AreCostsOf counted index → line_of (index_words counted.documents counted.lists counted.costs.postings) ++ line_of (cost_words counted.costs) ≡ report_text index
+unfolding costs_of
+counted_text counted index is =
+    ap (λ n. line_of (index_words n counted.lists counted.costs.postings) ++ line_of (cost_words counted.costs)) is.documents
+    ∙ ap (λ n. line_of (index_words (length index.documents) n counted.costs.postings) ++ line_of (cost_words counted.costs)) is.lists
+    ∙ ap (λ (c : Costs). line_of (index_words (length index.documents) (length index.lists) c.postings) ++ line_of (cost_words c)) is.costs
 
 -- the text between whose first and last lines the kept rounds stand
 pub text_is : (index new : IndexParts) (trace : List KeptRound) (before after : Costs) (first last : List ℕ) → before ≡ costs_of index → after ≡ costs_of new

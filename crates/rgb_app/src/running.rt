@@ -21,10 +21,9 @@ use crate::reordering::{Reordered, prepare, summary};
 use crate::status::Status;
 use crate::text::{index_line, report_text};
 use bool_query::answer_laws::answers_are_renumbered;
-use ciff_reader::read_index;
+use ciff_reader::{read_costs, read_index};
 use ciff_writer::{WriteError, write_index};
 use command_words::{Command, Reordering, command_of};
-use gap_report::Costs;
 use generated_index::generate;
 use query_file::read_queries;
 use rgb_base::{Index, Pace};
@@ -125,23 +124,15 @@ fn copy<H: Host>(alloc: Global, host: &mut H, input: &str, output: &str) -> Resu
     Ok(())
 }
 
-/// Prints what the gaps of a file's index cost, worked out by so many threads.
-fn report<R: Threads + Sync, H: Host>(
-    rt: &R,
-    alloc: Global,
-    host: &mut H,
-    input: &str,
-    workers: u32,
-) -> Result<(), Status>
-    requires some { 0 < workers }
-    requires most { workers ≤ 64 }
+/// Prints what the gaps of a file's index cost. They are counted while the file is read, on one
+/// thread: the number of workers is part of the command and changes nothing.
+fn report<H: Host>(alloc: Global, host: &mut H, input: &str, workers: u32) -> Result<(), Status>
     ensures says { MatchResult result
         (λ _. Says Status.Done (report input.now workers) (H.seen host.old) (H.seen host.new))
         (λ status. Says status (report input.now workers) (H.seen host.old) (H.seen host.new)) }
 {
-    let index = read_index(alloc, host, input)?;
-    let costs = Costs::of(rt, &index, workers)?;
-    let text = report_text(alloc, &index, costs)?;
+    let counted = read_costs(alloc, host, input)?;
+    let text = report_text(alloc, counted)?;
     show(host, &text)?;
     Ok(())
 }
@@ -269,7 +260,7 @@ fn work<R: Threads + Sync, H: Host>(rt: &R, alloc: Global, words: &[String], hos
     };
     let done = match command {
         Command::Copy { input, output } => copy(alloc, host, input, output),
-        Command::Report { input, workers } => report(rt, alloc, host, input, workers),
+        Command::Report { input, workers } => report(alloc, host, input, workers),
         Command::Reorder {
             input,
             output,

@@ -1,9 +1,10 @@
 //! The texts that are printed.
 ghost use Rattle.std.specs.Prelude.{◌≡◌, ◌++◌, length, codes, decimal, Some, IfOk, string_bytes};
-ghost use Rattle.rgb_base.specs.Parts.{posting_count};
-ghost use Rattle.gap_report.specs.Costs.{costs_of};
+ghost use Rattle.rgb_base.specs.Parts.{IndexParts, posting_count};
+ghost use Rattle.ciff_reader.specs.Counting.{AreCostsOf};
 ghost use Rattle.rgb_app.specs.Text.{line_of, index_words, index_line, cost_words, cost_lines, report_text};
 
+use ciff_reader::IndexCosts;
 use gap_report::Costs;
 use rgb_base::{Index, OutOfMemory};
 use std::alloc::Global;
@@ -14,7 +15,7 @@ use std::fmt;
 struct IndexWords {
     documents: u32,
     lists: u32,
-    postings: u32,
+    postings: u128,
 }
 
 impl fmt::Display for IndexWords {
@@ -53,7 +54,7 @@ fn words_of(index: &Index) -> IndexWords
     IndexWords {
         documents: index.documents(),
         lists: index.lists(),
-        postings: index.total_postings(),
+        postings: u128::from(index.total_postings()),
     }
 }
 
@@ -65,13 +66,19 @@ pub(crate) fn index_line(alloc: Global, index: &Index) -> Result<String, OutOfMe
     Ok(format!(in alloc; "{line}\n")?)
 }
 
-/// The text of `report`: the index line, and the line of these costs.
-pub(crate) fn report_text(alloc: Global, index: &Index, costs: Costs) -> Result<String, OutOfMemory>
-    requires { costs ≡ costs_of index.now }
-    ensures text { IfOk result (λ text. string_bytes text ≡ report_text index.now) }
+/// The text of `report`: the index line, and the line of the costs, as they were counted.
+pub(crate) fn report_text(alloc: Global, counted: IndexCosts) -> Result<String, OutOfMemory>
+    ensures text { IfOk result (λ text. (index : IndexParts)
+        → AreCostsOf counted index → string_bytes text ≡ report_text index) }
 {
-    let line = words_of(index);
-    let costs = CostWords { costs };
+    let line = IndexWords {
+        documents: counted.documents,
+        lists: counted.lists,
+        postings: counted.costs.postings,
+    };
+    let costs = CostWords {
+        costs: counted.costs,
+    };
     Ok(format!(in alloc; "{line}\n{costs}\n")?)
 }
 
