@@ -1,6 +1,5 @@
 use Rattle.std.proofs.Common.{◌+◌, ◌-◌, [], ◌∷◌, get_or, drop, subst, sym, ap, length, arith}
 use Rattle.std.proofs.lemmas.List.{length-drop}
-use Rattle.gap_report.specs.Codes.{coded_gaps}
 use Rattle.gap_report.specs.Tally.{Adds}
 use Rattle.gap_report.proofs.Gaps.{gaps_after, gaps_after-drop, gaps_after-end, gaps_of_docs, length-gaps_after, no_posting}
 use Rattle.gap_report.proofs.Tallies.{IsOnTheWay, IsOnTheWay-start, IsOnTheWay-more, Adds-all, IsTallyOf-push, next_rises}
