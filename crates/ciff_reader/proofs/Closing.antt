@@ -1,25 +1,22 @@
 -- What closing a list makes of its message.
-use Rattle.std.proofs.Common.{◌≡◌, ◌≢◌, ◌⊎◌, inl, inr, ℕ, ◌+◌, ◌^◌, ◌<◌, ◌≤◌, Bool, true, false, IsTrue, ℤ, pos, List, [], ◌∷◌, ◌++◌, length, map, refl, sym, ap, subst, ◌∙◌, arith, sum_by}
+use Rattle.std.proofs.Common.{◌≡◌, ◌≢◌, inl, inr, ℕ, IsTrue, ℤ, List, [], ◌∷◌, ◌++◌, length, refl, sym, ap, subst, ◌∙◌, arith, sum_by}
 use Rattle.std.specs.List.{AllPairs, Contains}
 use Rattle.std.proofs.lemmas.List.{map_push, length-append, get_or_append_left, get_or_at}
 use Rattle.std.proofs.lemmas.List.Sums.{sum_by-append}
-use Rattle.std.proofs.lemmas.Bool.{false≢true}
-use Rattle.ciff_wire.specs.Field.{Entry}
 use Rattle.rgb_base.specs.declared.parts.TermList.{TermList}
 use Rattle.rgb_base.specs.declared.parts.Posting.{Posting}
 use Rattle.rgb_base.specs.declared.parts.DocRecord.{DocRecord}
-use Rattle.rgb_base.specs.Parts.{IndexParts, terms_of, posting_count, text_size, AreDifferent, AreSized}
+use Rattle.rgb_base.specs.Parts.{terms_of, text_size, AreDifferent, AreSized}
 use Rattle.rgb_base.specs.Building.{Building, IsBuilding, HasTerm, IsFullOfText, closed, with_list, parts_of}
-use Rattle.ciff_format.specs.declared.cause.Cause.{Cause}
 use Rattle.ciff_format.specs.declared.cause.Cause.TheVariants.{CutShort, BadLength, BadField, BadText, BadCount, BadGap, SameTerm, BadDoc, Trailing, TooMuch}
-use Rattle.ciff_format.specs.Fields.{list_table, HasFields, AreTexts, text_at}
-use Rattle.ciff_format.specs.Messages.{PostingRows, HasListFields, gaps_in, AreGaps, IsListOf}
+use Rattle.ciff_format.specs.Fields.{list_table, AreTexts}
+use Rattle.ciff_format.specs.Messages.{HasListFields, gaps_in, AreGaps}
 use Rattle.ciff_format.specs.Refused.{IsListFault}
 use Rattle.ciff_reader.specs.declared.error.Refusal.{Refusal}
 use Rattle.ciff_reader.specs.declared.error.Refusal.TheVariants as refusals
 use Rattle.ciff_reader.specs.declared.gaps.Gaps.{Gaps}
 use Rattle.ciff_reader.specs.declared.list.ListFields.{ListFields}
-use Rattle.ciff_reader.specs.Listing.{listing, without_postings, ArePostings, SaysGoodGaps, SaysGaps, ReadsList, AddsList, IsRefusal, IsCloseFault}
+use Rattle.ciff_reader.specs.Listing.{listing, without_postings, ArePostings, ReadsList, AddsList, IsRefusal, IsCloseFault}
 use Rattle.ciff_reader.proofs.Rows.{as_many, postings_of}
 
 not_before : (xs : List (List ℕ)) (y : List ℕ) → AllPairs (λ a b. a ≢ b) (xs ++ y ∷ []) → ¬ Contains xs y
@@ -139,48 +136,3 @@ is_closed_fault message kept gaps built building lists reads terms text none (re
       | inl many ↦ is_too_many message kept gaps building lists reads fault.0 fault.1 many new
       | inr long ↦ is_too_long message kept gaps building lists reads fault.0 fault.1 long.0 none new (omega (arith, long.1, text))
     ]
-
--- ---- what is pending, in a building
-
-cases_is : (b : Bool) → IsTrue b ⊎ (¬ IsTrue b)
-cases_is true = inl refl
-cases_is false = inr (λ was. false≢true was)
-
-moved_rows : (rows : PostingRows) (gaps fitting : Gaps) (pending building : Building) → pending.lists ≡ [] → building.documents ≡ pending.documents
-    → fitting ≡ record gaps { are_few = fitting.are_few } → (IsTrue fitting.are_few → IsTrue gaps.are_few × (building.postings ≡ pending.postings))
-    → (¬ IsTrue fitting.are_few → (¬ IsTrue gaps.are_few) ⊎ (2 ^ 32 ≤ posting_count building.lists + length pending.postings))
-    → SaysGaps rows gaps pending → SaysGaps rows fitting building
-moved_rows rows gaps fitting pending building none documents same few many says = record {
-  good = λ was.
-      let before : IsTrue gaps.are_good = subst IsTrue (ap (λ (g : Gaps). g.are_good) same) was in
-      let g = says.good before in
-      let count : posting_count pending.lists ≡ 0 = ap posting_count none in
-      record {
-        good = subst (λ (n : ℕ). AreGaps n (gaps_in rows)) (sym documents) g.good;
-        least = ap (λ (x : Gaps). pos x.least) same ∙ g.least;
-        document = ap (λ (x : Gaps). pos x.document) same ∙ g.document;
-        few = λ is. subst (ArePostings rows) (sym (few is).1) (g.few (few is).0);
-        many = λ isnt. elim (many isnt) [
-          | inl before ↦ omega (arith, g.many before, count)
-          | inr full ↦ by_cases g count full (cases_is gaps.are_few)
-        ];
-      };
-  bad = λ isnt. λ good. says.bad (λ was. isnt (subst IsTrue (sym (ap (λ (g : Gaps). g.are_good) same)) was)) (subst (λ (n : ℕ). AreGaps n (gaps_in rows)) documents good);
-}
-  where
-    by_cases : SaysGoodGaps rows gaps pending → posting_count pending.lists ≡ 0 → 2 ^ 32 ≤ posting_count building.lists + length pending.postings → IsTrue gaps.are_few ⊎ (¬ IsTrue gaps.are_few)
-        → 2 ^ 32 ≤ posting_count building.lists + length rows
-    by_cases g count full (inl is) = omega (arith, full, as_many rows pending.postings (g.few is))
-    by_cases g count full (inr isnt) = omega (arith, g.many isnt, count)
-
-pub moved : (message : List ℕ) (kept : ListFields) (gaps fitting : Gaps) (pending building : Building) → pending.lists ≡ [] → building.documents ≡ pending.documents
-    → fitting ≡ record gaps { are_few = fitting.are_few } → (IsTrue fitting.are_few → IsTrue gaps.are_few × (building.postings ≡ pending.postings))
-    → (¬ IsTrue fitting.are_few → (¬ IsTrue gaps.are_few) ⊎ (2 ^ 32 ≤ posting_count building.lists + length pending.postings))
-    → ReadsList message kept gaps pending → ReadsList message kept fitting building
-moved message kept gaps fitting pending building none documents same few many reads = record {
-  fields = reads.fields;
-  rows = reads.rows;
-  read = reads.read;
-  says = reads.says;
-  postings = record { each = reads.postings.each; gaps = moved_rows reads.rows gaps fitting pending building none documents same few many reads.postings.gaps };
-}

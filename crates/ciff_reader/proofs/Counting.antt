@@ -1,12 +1,12 @@
 -- What is counted, beside what the messages say.
-use Rattle.std.proofs.Common.{◌≡◌, ℕ, ℤ, ◌+◌, ◌^◌, ◌<◌, List, [], ◌∷◌, ◌++◌, length, refl, sym, ap, subst, ◌∙◌, arith, sum_by}
+use Rattle.std.proofs.Common.{◌≡◌, ℕ, ◌+◌, ◌^◌, ◌<◌, List, [], ◌∷◌, ◌++◌, length, refl, sym, ap, subst, ◌∙◌, arith, sum_by}
 use Rattle.std.specs.List.{Contains}
 use Rattle.std.proofs.lemmas.List.{map_push, length-map}
 use Rattle.std.proofs.lemmas.List.Sums.{sum_by-append, sum_by-cons}
 use Rattle.rgb_base.specs.declared.parts.TermList.{TermList}
 use Rattle.rgb_base.specs.declared.parts.DocRecord.{DocRecord}
 use Rattle.rgb_base.specs.declared.parts.Header.{Header}
-use Rattle.rgb_base.specs.Parts.{terms_of, posting_count, text_size, AreSized}
+use Rattle.rgb_base.specs.Parts.{terms_of, text_size, AreSized}
 use Rattle.rgb_base.specs.Building.{Building, IsBuilding, HasTerm, closed, with_list, parts_of}
 use Rattle.rgb_host.specs.Seen.{Seen}
 use Rattle.gap_report.specs.declared.tally.Tally.{Tally}
@@ -20,7 +20,7 @@ use Rattle.ciff_reader.specs.declared.gaps.Gaps.{Gaps}
 use Rattle.ciff_reader.specs.declared.list.ListFields.{ListFields}
 use Rattle.ciff_reader.specs.Awaited.{with_lists}
 use Rattle.ciff_reader.specs.Counting.{IsCounted, AtCounted, AddsCounted}
-use Rattle.ciff_reader.specs.Listing.{listing, without_postings, ReadsList, AddsList, IsRefusal, Closes, IsCloseFault}
+use Rattle.ciff_reader.specs.Listing.{listing, ReadsList, AddsList, IsRefusal, Closes, IsCloseFault}
 use Rattle.ciff_reader.specs.Steps.{AtGood}
 use Rattle.ciff_reader.specs.Window.{Held, Opens, ExplainsWhere, IsFrameFault}
 use Rattle.ciff_reader.proofs.Closing.{is_added, new_term, is_closed_fault}

@@ -1,18 +1,17 @@
 -- Records that stand in the index or wait for their turn.
-use Rattle.std.proofs.Common.{◌≡◌, ◌≢◌, ◌⊎◌, inl, inr, ℕ, zero, suc, ◌+◌, ◌^◌, ◌<◌, ◌≤◌, Bool, true, false, IsTrue, ℤ, pos, negsuc, List, [], ◌∷◌, ◌++◌, length, map, get_or, Option, Some, None, refl, sym, ap, subst, ◌∙◌, arith, sum_by}
-use Rattle.std.specs.Prelude.{◌≤ℤ◌, ◌<ℤ◌, slice_get}
+use Rattle.std.proofs.Common.{◌≡◌, ◌≢◌, ◌⊎◌, inl, inr, ℕ, zero, suc, ◌+◌, ◌<◌, ◌≤◌, ℤ, pos, List, [], ◌∷◌, ◌++◌, length, map, get_or, Option, Some, None, refl, sym, ap, subst, ◌∙◌, arith}
+use Rattle.std.specs.Prelude.{slice_get}
 use Rattle.std.specs.Option.{IsSome}
 use Rattle.std.specs.List.{Contains}
 use Rattle.std.proofs.lemmas.Int.{ints}
 use Rattle.std.proofs.lemmas.Bool.{cases_eq, false≢true}
 use Rattle.std.proofs.lemmas.Option.{slice_get_within}
-use Rattle.std.proofs.lemmas.List.{map_push, length_push, length-append, length-map, get_or_default}
+use Rattle.std.proofs.lemmas.List.{map_push, length_push, length-map, get_or_default}
 use Rattle.std.proofs.Math.ListN.{get_or-map}
 use Rattle.std.proofs.lemmas.List.Elements.{Contains-push, Contains-append_left, Contains-push_cases}
 use Rattle.std.proofs.lemmas.List.Sums.{sum_by-append}
 use Rattle.rgb_base.specs.declared.parts.DocRecord.{DocRecord}
-use Rattle.rgb_base.specs.declared.parts.TermList.{TermList}
-use Rattle.rgb_base.specs.Parts.{AreSized, text_size, posting_count}
+use Rattle.rgb_base.specs.Parts.{text_size}
 use Rattle.rgb_base.specs.Building.{Building, with_record}
 use Rattle.ciff_wire.specs.Field.{Entry}
 use Rattle.ciff_format.specs.Fields.{int32_at, text_at}

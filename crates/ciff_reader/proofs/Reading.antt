@@ -1,7 +1,6 @@
 -- A list's message, read field after field.
-use Rattle.std.proofs.Common.{◌≡◌, inl, inr, ℕ, ◌+◌, true, pos, List, [], ◌∷◌, ◌++◌, map, take, drop, refl, sym, ap, subst, ◌∙◌, Result, Ok, Err, OnOk, IfErr}
+use Rattle.std.proofs.Common.{◌≡◌, inl, inr, ℕ, ◌+◌, true, pos, List, [], ◌∷◌, ◌++◌, map, take, drop, refl, sym, ap, subst, ◌∙◌}
 use Rattle.std.specs.Prelude.{◌≤ℤ◌, ◌<ℤ◌}
-use Rattle.ciff_format.specs.Accepted.{Front}
 use Rattle.rgb_base.specs.declared.parts.Posting.{Posting}
 use Rattle.std.proofs.lemmas.List.Elements.{All-nil}
 use Rattle.ciff_wire.specs.Field.{Entry, SpellsField, IsMessage, as_bytes}
@@ -10,11 +9,9 @@ use Rattle.rgb_base.specs.Building.{Building}
 use Rattle.ciff_format.specs.Fields.{list_table, HasItsType, HasFields}
 use Rattle.ciff_format.specs.Messages.{PostingRows, HasListFields, sums_from, AreGaps}
 use Rattle.ciff_format.specs.Growing.{LaterWins, EachIsAdded, TypesGrow, TextsGrow, WrongTypeIsBad, BadPostingIsBad, sum_after}
-use Rattle.ciff_format.specs.Refused.{IsListFault}
-use Rattle.ciff_reader.specs.declared.error.Refusal.{Refusal}
 use Rattle.ciff_reader.specs.declared.gaps.Gaps.{Gaps}
 use Rattle.ciff_reader.specs.declared.list.ListFields.{ListFields}
-use Rattle.ciff_reader.specs.Listing.{listing, without_postings, ChangesPostings, IsRefusal, IsBadField, SaysGaps, SaysList, SaysPostings, StartsWithPosting, ReadsList, AddsList}
+use Rattle.ciff_reader.specs.Listing.{listing, without_postings, ChangesPostings, IsBadField, SaysGaps, SaysList, SaysPostings, StartsWithPosting, ReadsList}
 use Rattle.ciff_reader.specs.declared.posting.PostingFields.{PostingFields}
 use Rattle.ciff_reader.specs.Says.{SaysPosting}
 use Rattle.ciff_reader.proofs.Fronts.{field_added, wrong_type}

@@ -1,22 +1,19 @@
 -- The rows of a list's postings: what their gaps lead to, and the postings that they say.
-use Rattle.std.proofs.Common.{◌≡◌, ◌≢◌, ◌⊎◌, ◌↔◌, ℕ, ◌+◌, ◌^◌, ◌<◌, ◌≤◌, Bool, true, false, IsTrue, ℤ, pos, negsuc, List, [], ◌∷◌, ◌++◌, length, map, take, drop, refl, sym, ap, subst, ◌∙◌, arith, inl, inr}
+use Rattle.std.proofs.Common.{◌≡◌, ◌⊎◌, ℕ, ◌<◌, Bool, true, false, IsTrue, ℤ, pos, negsuc, List, [], ◌∷◌, ◌++◌, length, map, refl, sym, ap, subst, ◌∙◌, arith, inl, inr}
 use Rattle.std.specs.Prelude.{◌+ℤ◌, ◌≤ℤ◌, ◌<ℤ◌}
 use Rattle.std.specs.List.{All}
-use Rattle.std.proofs.lemmas.Int.{ints, by_lt_z}
+use Rattle.std.proofs.lemmas.Int.{ints}
 use Rattle.std.proofs.lemmas.Bool.{false≢true}
 use Rattle.std.proofs.lemmas.List.{map_push, length-map, length_push}
 use Rattle.std.proofs.lemmas.List.Elements.{All-nil, All-cons, All-head, All-tail, All-weaker}
 use Rattle.ciff_wire.specs.Field.{Entry}
 use Rattle.rgb_base.specs.declared.parts.Posting.{Posting}
-use Rattle.rgb_base.specs.Parts.{posting_count}
 use Rattle.rgb_base.specs.Building.{Building, with_posting, IsNextDocument, IsFullOfPostings}
 use Rattle.ciff_format.specs.Fields.{int32_at}
 use Rattle.ciff_format.specs.Messages.{PostingRows, gaps_in, sums_from, AreGaps}
 use Rattle.ciff_format.specs.Growing.{sum_after, least_gap, IsGapBehind, SumsGrow, SumGrows, GapsGrow}
-use Rattle.ciff_reader.specs.declared.posting.PostingFields.{PostingFields}
 use Rattle.ciff_reader.specs.declared.gaps.Gaps.{Gaps}
-use Rattle.ciff_reader.specs.Says.{SaysPosting}
-use Rattle.ciff_reader.specs.Listing.{ArePostings, SaysGoodGaps, SaysGaps}
+use Rattle.ciff_reader.specs.Listing.{ArePostings, SaysGaps}
 
 -- ---- sums that rise
 

@@ -1,5 +1,5 @@
 -- What the last field of a number holds, and whether texts are good, where a field is added.
-use Rattle.std.proofs.Common.{◌≡◌, ◌≢◌, ◌↔◌, ℕ, ◌==◌, ◌%◌, ◌^◌, Bool, true, false, cond, IsTrue, ℤ, List, [], ◌∷◌, ◌++◌, Option, Some, None, refl, sym, ap, subst, ◌∙◌}
+use Rattle.std.proofs.Common.{◌≡◌, ◌≢◌, ◌↔◌, ℕ, ◌%◌, ◌^◌, Bool, false, cond, IsTrue, ℤ, List, [], ◌∷◌, ◌++◌, Option, Some, sym, ap, ◌∙◌}
 use Rattle.std.specs.Int.{w32, w64, cast_signed}
 use Rattle.std.proofs.lemmas.Bool.{eq-eqb, ne_eqb, false≢true}
 use Rattle.ciff_wire.specs.Field.{Held, Entry, as_number, as_eight, as_bytes}

@@ -1,7 +1,6 @@
 -- A message at the front of the window as the next step of reading the file.
-use Rattle.std.proofs.Common.{◌≡◌, ◌⊎◌, inl, inr, ℕ, ◌+◌, ◌-◌, ◌^◌, ◌<◌, ◌≤◌, List, [], ◌∷◌, ◌++◌, length, take, drop, refl, sym, ap, subst, ◌∙◌, arith}
+use Rattle.std.proofs.Common.{◌≡◌, ℕ, ◌+◌, ◌-◌, ◌<◌, ◌≤◌, List, [], ◌∷◌, ◌++◌, length, take, drop, refl, sym, ap, subst, ◌∙◌, arith}
 use Rattle.std.proofs.lemmas.List.{length-append, length-drop, drop-append-le, drop-drop}
-use Rattle.rgb_base.specs.declared.parts.TermList.{TermList}
 use Rattle.rgb_base.specs.declared.parts.DocRecord.{DocRecord}
 use Rattle.rgb_base.specs.Parts.{AreSized}
 use Rattle.rgb_base.specs.Building.{Building, parts_of}
@@ -19,7 +18,7 @@ use Rattle.ciff_format.specs.Messages.{Numbered}
 use Rattle.ciff_reader.specs.Awaited.{IsNextRecord}
 use Rattle.ciff_reader.specs.declared.heading.Heading.{Heading}
 use Rattle.ciff_reader.specs.Steps.{AtGood, IsHeading, HasOneMoreList}
-use Rattle.ciff_reader.specs.Window.{Held, Opens, IsFile, IsAt, IsSpan, IsFrameFault, ExplainsWhere, without, message_in}
+use Rattle.ciff_reader.specs.Window.{Held, Opens, IsAt, IsSpan, IsFrameFault, ExplainsWhere, without, message_in}
 use Rattle.ciff_reader.proofs.Frames.{message_at, frame_fault, explains_where}
 
 -- ---- the window

@@ -1,13 +1,12 @@
 -- The whole of a file.
-use Rattle.std.proofs.Common.{◌≡◌, ◌⊎◌, inl, inr, ℕ, ◌<◌, ◌≤◌, List, [], ◌++◌, length, drop, refl, sym, ap, subst, ◌∙◌, arith, IfSome, IsSomeAnd}
+use Rattle.std.proofs.Common.{◌≡◌, ℕ, ◌<◌, List, [], length, refl, sym, ap, subst, ◌∙◌, arith}
 use Rattle.rgb_base.specs.Parts.{IndexParts}
 use Rattle.rgb_base.specs.declared.parts.Header.{Header}
-use Rattle.rgb_base.specs.declared.parts.TermList.{TermList}
 use Rattle.rgb_base.specs.Building.{Building, begun, parts_of}
 use Rattle.rgb_host.specs.Seen.{Seen, Lacks}
 use Rattle.ciff_format.specs.declared.cause.Cause.{Cause}
 use Rattle.ciff_format.specs.declared.cause.Cause.TheVariants.{Trailing}
-use Rattle.ciff_format.specs.Accepted.{Front, Accepted, ExpectsNothing, Good}
+use Rattle.ciff_format.specs.Accepted.{Front, Accepted, Good}
 use Rattle.ciff_format.specs.Refused.{Refused, at_end}
 use Rattle.ciff_format.specs.Growing.{front_of}
 use Rattle.ciff_reader.specs.declared.error.ReadError.{ReadError}
@@ -18,7 +17,6 @@ use Rattle.ciff_reader.specs.Listing.{listing}
 use Rattle.ciff_reader.specs.Steps.{AtGood}
 use Rattle.ciff_reader.specs.Window.{Held, IsFile, IsAt, Opens, ExplainsWhere}
 use Rattle.ciff_reader.proofs.Windows.{of_file}
-use Rattle.ciff_reader.proofs.Frames.{explains_where}
 
 pub window_begins : (window : Held) (file : List ℕ) → window ≡ record { place = 0; bytes = [] } → IsAt window file
 window_begins window file is = subst (λ (w : Held). IsAt w file) (sym is) (record { rest = file; within = omega arith; bytes = refl })

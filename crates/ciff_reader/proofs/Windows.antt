@@ -1,7 +1,7 @@
 -- A window over a file, piece by piece.
-use Rattle.std.proofs.Common.{◌≡◌, ℕ, zero, suc, ◌+◌, ◌-◌, ◌<◌, ◌≤◌, List, [], ◌∷◌, ◌++◌, length, take, drop, Option, Some, None, refl, sym, ap, subst, ◌∙◌, arith, IfSome, IsSomeAnd, Result, Ok, Err, IfOk, OnOk}
+use Rattle.std.proofs.Common.{◌≡◌, ℕ, zero, suc, ◌+◌, ◌<◌, ◌≤◌, List, ◌++◌, length, take, drop, Option, Some, None, refl, sym, ap, subst, ◌∙◌, arith, IfSome, IsSomeAnd, Result, Ok, Err, IfOk, OnOk}
 use Rattle.std.specs.FinMap.{get}
-use Rattle.std.proofs.lemmas.List.{append_assoc, append-nil, drop_at, drop-drop, drop-append-le, take-append-drop, length-append, length-drop, length-take, nil_from_length}
+use Rattle.std.proofs.lemmas.List.{append_assoc, append-nil, drop_at, drop-drop, drop-append-le, take-append-drop, length-append, length-drop, nil_from_length}
 use Rattle.rgb_host.specs.Files.{Files, Reads, ReadsTold}
 use Rattle.rgb_host.specs.Seen.{Seen, Lacks}
 use Rattle.ciff_reader.specs.Window.{Held, IsFile, IsAt, IsAtEnd, IsNextPiece}

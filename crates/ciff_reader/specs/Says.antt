@@ -1,5 +1,5 @@
 -- What the fields of a message say, field by field: the values that a reader keeps of them.
-use Rattle.std.specs.Prelude.{◌≡◌, ◌↔◌, ℕ, ◌+◌, ◌<◌, List, [], ◌∷◌, ◌++◌, Option, Some, None, Bool, true, slice_index, IsTrue}
+use Rattle.std.specs.Prelude.{◌≡◌, ◌↔◌, ℕ, ◌+◌, ◌<◌, List, [], ◌∷◌, ◌++◌, Option, Some, None, slice_index, IsTrue}
 use Rattle.ciff_wire.specs.Field.{Entry}
 use Rattle.ciff_format.specs.Fields.{Known, HasItsType, HasFields, AreTexts, header_table, record_table, number_or_zero, held_at, int32_at, double_at, text_at}
 use Rattle.ciff_reader.specs.declared.posting.PostingFields.{PostingFields}

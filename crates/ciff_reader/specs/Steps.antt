@@ -1,8 +1,8 @@
 -- A file that is read message after message, each a step of the whole.
-use Rattle.std.specs.Prelude.{◌≡◌, ◌⊎◌, ℕ, ◌+◌, ◌^◌, ◌<◌, ◌≤◌, List, [], ◌∷◌, ◌++◌, length, pos, Some, slice_get, Contains, All}
+use Rattle.std.specs.Prelude.{◌≡◌, ℕ, ◌^◌, ◌<◌, List, [], ◌∷◌, ◌++◌, pos}
 use Rattle.ciff_wire.specs.Field.{Entry}
 use Rattle.rgb_base.specs.declared.parts.TermList.{TermList}
-use Rattle.rgb_base.specs.Parts.{AreSized, FitsHeader}
+use Rattle.rgb_base.specs.Parts.{AreSized}
 use Rattle.rgb_base.specs.Building.{Building}
 use Rattle.rgb_host.specs.Seen.{Seen}
 use Rattle.ciff_format.specs.Fields.{HasFields, AreTexts, header_table, int32_at}

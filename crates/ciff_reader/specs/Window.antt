@@ -6,7 +6,6 @@ use Rattle.rgb_host.specs.Files.{Files}
 use Rattle.rgb_host.specs.Seen.{Seen}
 use Rattle.ciff_format.specs.declared.cause.Cause.{Cause}
 use Rattle.ciff_format.specs.declared.cause.Cause.TheVariants.{CutShort, BadLength}
-use Rattle.ciff_format.specs.Messages.{MessageAt}
 use Rattle.ciff_format.specs.Refused.{IsCutShort, IsTooLong}
 use Rattle.ciff_reader.specs.declared.error.ReadError.{ReadError}
 use Rattle.ciff_reader.specs.declared.error.ReadError.TheVariants.{Fault, OutOfMemory, Malformed}

@@ -115,7 +115,13 @@ fn take_counted<H: Host>(
         Err(error) => return Err(error),
     };
     let end = span.from + span.size;
-    let after = match count_list(&window.bytes()[span.from..end], room, pending, builder, tally) {
+    let after = match count_list(
+        &window.bytes()[span.from..end],
+        room,
+        pending,
+        builder,
+        tally,
+    ) {
         Ok(after) => after,
         Err(Refusal::Cause(cause)) => return Err(ReadError::Malformed { place, cause }),
         Err(Refusal::OutOfMemory) => return Err(ReadError::OutOfMemory),

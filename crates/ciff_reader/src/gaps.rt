@@ -141,8 +141,7 @@ impl Gaps {
         }
         let document = sum as u32;
         let tf = posting.tf;
-        let are_few = self.are_few
-            && pending.push_posting(Posting { doc: document, tf })?;
+        let are_few = self.are_few && pending.push_posting(Posting { doc: document, tf })?;
         Ok(Gaps {
             least: 1,
             document,

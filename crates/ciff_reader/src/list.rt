@@ -145,11 +145,7 @@ pub(crate) fn read_fields<'a>(
 
 /// Puts the postings of the open list into the builder. Where they are too many for it, the gaps
 /// say so then.
-fn fill(
-    pending: &OpenList,
-    gaps: Gaps,
-    builder: &mut IndexBuilder,
-) -> Result<Gaps, OutOfMemory>
+fn fill(pending: &OpenList, gaps: Gaps, builder: &mut IndexBuilder) -> Result<Gaps, OutOfMemory>
     requires documents { pending.now.documents ≡ builder.old.documents }
     requires none_open { builder.old.postings ≡ [] }
     ensures same { OnOk result (ChangesPostings builder.old builder.new) }

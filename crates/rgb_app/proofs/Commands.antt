@@ -1,5 +1,5 @@
 -- What the steps of each command come to.
-use Rattle.std.proofs.Common.{◌≡◌, ℕ, ◌<◌, ◌≤◌, List, [], ◌∷◌, Option, Some, None, IsSomeAnd, IfSome, Result, Ok, Err, refl, sym, ap, subst, ◌∙◌, inl, inr, arith, min}
+use Rattle.std.proofs.Common.{◌≡◌, ℕ, ◌≤◌, List, [], ◌∷◌, Option, Some, None, IsSomeAnd, IfSome, Result, Ok, Err, refl, sym, ap, subst, ◌∙◌, inl, inr, arith, min}
 use Rattle.std.specs.Result.{IsErrAnd, MatchResult}
 use Rattle.std.specs.FinMap.{get}
 use Rattle.rgb_base.specs.Parts.{IndexParts}
@@ -21,8 +21,8 @@ use Rattle.query_file.specs.declared.error.QueriesError.{QueriesError}
 use Rattle.query_file.specs.declared.error.QueriesError.TheVariants as query_errors
 use Rattle.rgb_app.specs.Answering.{AreAnswers}
 use Rattle.rgb_app.specs.declared.answers.Answer.{Answer}
-use Rattle.command_words.specs.Line.{Word, ComesTo as OptionComesTo}
-use Rattle.command_words.specs.Command.{Command, copy, report, reorder, query, make, workers_option, IsCommand}
+use Rattle.command_words.specs.Line.{Word}
+use Rattle.command_words.specs.Command.{Command, copy, report, reorder, query, make}
 use Rattle.command_words.specs.declared.reordering.Reordering.{Reordering}
 use Rattle.cell_claims.specs.declared.trace.KeptRound.{KeptRound}
 use Rattle.rgb_app.specs.Text.{index_line, report_text, reorder_text, query_text}

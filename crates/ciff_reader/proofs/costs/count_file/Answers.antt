@@ -1,10 +1,9 @@
 use Rattle.std.proofs.Common.{◌≡◌, ◌<◌, ℕ, List, length, refl, sym, ap, ◌∙◌}
-use Rattle.rgb_base.specs.declared.parts.TermList.{TermList}
 use Rattle.rgb_base.specs.Building.{parts_of}
 use Rattle.ciff_format.specs.Refused.{Refused}
 use Rattle.ciff_format.specs.declared.cause.Cause.TheVariants.{Trailing}
 use Rattle.ciff_reader.specs.Awaited.{with_lists}
-use Rattle.ciff_reader.specs.Counting.{AtCounted, CountsFile}
+use Rattle.ciff_reader.specs.Counting.{AtCounted}
 use Rattle.ciff_reader.specs.Listing.{listing}
 use Rattle.ciff_reader.specs.Steps.{AtGood}
 use Rattle.ciff_reader.specs.Window.{Opens}

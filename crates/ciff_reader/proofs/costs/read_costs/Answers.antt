@@ -1,4 +1,4 @@
-use Rattle.std.proofs.Common.{◌≡◌, ℕ, List, refl, sym, ◌∙◌}
+use Rattle.std.proofs.Common.{ℕ, List}
 use Rattle.std.proofs.lemmas.Result.{IfErr-weaker}
 use Rattle.ciff_format.specs.Refused.{Refused}
 use Rattle.ciff_reader.specs.Counting.{CountsFile}

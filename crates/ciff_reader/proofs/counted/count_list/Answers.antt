@@ -1,8 +1,6 @@
-use Rattle.std.proofs.Common.{◌≡◌, refl, sym, ap, ◌∙◌, ◌+◌, ◌^◌, ◌<◌, length, List, subst, arith}
+use Rattle.std.proofs.Common.{◌≡◌, refl, sym, ap, ◌∙◌}
 use Rattle.rgb_base.specs.Building.{Building}
-use Rattle.rgb_base.specs.declared.parts.Posting.{Posting}
-use Rattle.ciff_reader.specs.Counting.{IsCounted}
-use Rattle.ciff_reader.specs.Listing.{listing, ReadsList}
+use Rattle.ciff_reader.specs.Listing.{listing}
 use Rattle.ciff_reader.proofs.Counting.{behind, same_documents, counted_fault, counted_list}
 use Rattle.ciff_reader.proofs.counted.count_list.Goals as goal
 

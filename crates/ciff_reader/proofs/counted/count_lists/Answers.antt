@@ -1,7 +1,5 @@
-use Rattle.std.proofs.Common.{◌≡◌, ◌<◌, ℕ, List, length, ◌∙◌, sym, ap, refl, subst, arith}
-use Rattle.rgb_base.specs.declared.parts.TermList.{TermList}
+use Rattle.std.proofs.Common.{◌<◌, length, ◌∙◌, sym, ap, arith}
 use Rattle.rgb_base.specs.Building.{Building}
-use Rattle.gap_report.specs.Tally.{IsTallyOf}
 use Rattle.ciff_format.specs.Refused.{Refused}
 use Rattle.ciff_reader.specs.Counting.{AtCounted}
 use Rattle.ciff_reader.specs.Listing.{listing}

@@ -1,10 +1,9 @@
-use Rattle.std.proofs.Common.{◌≡◌, ◌-◌, ◌≤◌, List, ℕ, length, take, drop, IfSome, IfNone, [], refl, ap, subst, ◌∙◌, arith}
+use Rattle.std.proofs.Common.{◌≡◌, ◌-◌, ◌≤◌, List, ℕ, length, take, drop, IfSome, IfNone, [], refl, subst, arith}
 use Rattle.std.proofs.lemmas.List.{take_rest, length-take, length-drop}
 use Rattle.ciff_wire.specs.Field.{SpellsField, entry_of}
 use Rattle.ciff_format.specs.Fields.{list_table}
 use Rattle.std.specs.Prelude.{Option}
 use Rattle.ciff_reader.specs.declared.gaps.Gaps.{Gaps}
-use Rattle.rgb_base.specs.Building.{Building}
 use Rattle.ciff_reader.specs.Listing.{ReadsList, TakesPosting}
 use Rattle.ciff_reader.proofs.Fronts.{used_some, faulty, wrong_type, whole}
 use Rattle.ciff_reader.proofs.Reading.{gaps_begin, list_goes_on, bad_field, changes_twice}

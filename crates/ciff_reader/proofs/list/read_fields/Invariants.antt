@@ -1,4 +1,4 @@
-use Rattle.std.proofs.Common.{◌≡◌, ◌+◌, ◌-◌, ◌^◌, ◌<◌, ◌≤◌, [], length, take}
+use Rattle.std.proofs.Common.{◌-◌, ◌≤◌, length, take}
 use Rattle.ciff_reader.specs.Listing.{ChangesPostings, ReadsList}
 use Rattle.ciff_reader.proofs.list.read_fields.Given as goal
 

@@ -1,5 +1,5 @@
-use Rattle.std.proofs.Common.{◌≡◌, ℕ, List, refl, sym, ap, subst, ◌∙◌, arith}
-use Rattle.rgb_base.specs.Building.{Building, IsBuilding, with_list}
+use Rattle.std.proofs.Common.{refl, sym, ap, subst, ◌∙◌, arith}
+use Rattle.rgb_base.specs.Building.{Building, IsBuilding}
 use Rattle.ciff_format.specs.Accepted.{Front}
 use Rattle.ciff_format.specs.Refused.{IsListFault}
 use Rattle.ciff_reader.specs.Listing.{listing, without_postings, IsRefusal, AddsList}

@@ -1,4 +1,4 @@
-use Rattle.std.proofs.Common.{◌≡◌, ◌<◌, ℕ, List, length, ◌∙◌, sym, ap, refl, arith}
+use Rattle.std.proofs.Common.{◌<◌, length, ◌∙◌, sym, ap, arith}
 use Rattle.rgb_base.specs.Building.{Building}
 use Rattle.ciff_format.specs.Refused.{Refused}
 use Rattle.ciff_reader.specs.Listing.{listing}

@@ -1,4 +1,4 @@
-use Rattle.std.proofs.Common.{◌≡◌, ℕ, ◌+◌, ◌-◌, take, drop, ◌∙◌, sym, refl, subst}
+use Rattle.std.proofs.Common.{◌+◌, ◌-◌, take, drop, subst}
 use Rattle.ciff_reader.specs.Listing.{listing, IsRefusal}
 use Rattle.ciff_format.specs.Refused.{IsListFault}
 use Rattle.ciff_reader.specs.declared.error.Refusal.{Refusal}

@@ -1,4 +1,4 @@
-use Rattle.std.proofs.Common.{◌≡◌, List, ℕ, refl, sym, ap, subst, ◌∙◌, IfNone}
+use Rattle.std.proofs.Common.{◌≡◌, subst, ◌∙◌, IfNone}
 use Rattle.ciff_reader.specs.Window.{Opens, IsFrameFault, IsUnended}
 use Rattle.ciff_reader.proofs.Frames.{far_frame, cut_frame, stops_where}
 use Rattle.ciff_reader.proofs.Windows.{still_file}

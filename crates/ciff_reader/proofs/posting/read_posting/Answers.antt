@@ -3,7 +3,7 @@ use Rattle.std.proofs.lemmas.List.{take_rest, length-take, length-drop}
 use Rattle.ciff_wire.specs.Field.{SpellsField, entry_of}
 use Rattle.ciff_format.specs.Fields.{posting_table}
 use Rattle.ciff_reader.specs.Says.{SaysPosting}
-use Rattle.ciff_reader.proofs.Fronts.{used_some, fields_begin, goes_on, ends, faulty, wrong_type}
+use Rattle.ciff_reader.proofs.Fronts.{used_some, goes_on, ends, faulty, wrong_type}
 use Rattle.ciff_reader.proofs.posting.read_posting.Goals as goal
 
 pub returns-in_default : goal.returns-in_default

@@ -1,8 +1,7 @@
-use Rattle.std.proofs.Common.{◌≡◌, ℕ, List, refl, sym, ◌∙◌}
+use Rattle.std.proofs.Common.{ℕ, List}
 use Rattle.std.proofs.lemmas.Result.{IfErr-weaker}
 use Rattle.ciff_format.specs.Accepted.{Accepted}
 use Rattle.ciff_format.specs.Refused.{Refused}
-use Rattle.ciff_reader.specs.Reading.{OfFile, Explains}
 use Rattle.ciff_reader.specs.Window.{Opens, ExplainsWhere}
 use Rattle.ciff_reader.proofs.Windows.{if_then, of_file, still_file}
 use Rattle.ciff_reader.proofs.Whole.{window_begins, explains}

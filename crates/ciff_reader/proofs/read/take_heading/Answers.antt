@@ -1,4 +1,4 @@
-use Rattle.std.proofs.Common.{◌≡◌, ℕ, ◌+◌, ◌-◌, take, drop, ◌∙◌, subst}
+use Rattle.std.proofs.Common.{◌+◌, ◌-◌, take, drop, subst}
 use Rattle.ciff_format.specs.Refused.{IsHeaderFault}
 use Rattle.ciff_reader.specs.declared.error.Refusal.{Refusal}
 use Rattle.ciff_reader.specs.Listing.{IsRefusal}

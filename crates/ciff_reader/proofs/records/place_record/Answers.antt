@@ -1,10 +1,7 @@
-use Rattle.std.proofs.Common.{◌≡◌, ◌≢◌, ℕ, ◌+◌, ◌≤◌, List, length, Some, sym, ◌∙◌, arith, rules}
-use mir.Val.{SFits}
+use Rattle.std.proofs.Common.{◌≡◌, ◌≢◌, length, ◌∙◌, arith}
 use Rattle.std.specs.Int.{w32}
 use Rattle.std.proofs.lemmas.Int.{to_z-of_z}
 use Rattle.std.proofs.lemmas.Result.{on_ok_weaker}
-use Rattle.rgb_base.specs.declared.parts.DocRecord.{DocRecord}
-use Rattle.ciff_reader.specs.Awaited.{found, StaysBut}
 use Rattle.ciff_reader.proofs.Windows.{ok_both}
 use Rattle.ciff_reader.proofs.Placing.{stands_now, put_now, waits_shorter, waits_still}
 use Rattle.ciff_format.specs.Accepted.{with_record}

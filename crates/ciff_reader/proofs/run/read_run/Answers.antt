@@ -1,5 +1,5 @@
-use Rattle.std.proofs.Common.{◌≡◌, ◌+◌, ◌-◌, ◌≤◌, [], length, take, drop, refl, sym, subst, ◌∙◌, ap, arith, rules}
-use Rattle.std.specs.Prelude.{FitsSigned, List, ℕ}
+use Rattle.std.proofs.Common.{◌≡◌, ◌+◌, ◌-◌, [], length, take, drop, refl, sym, subst, ◌∙◌, ap, arith, rules}
+use Rattle.std.specs.Prelude.{FitsSigned, ℕ}
 use mir.Val.{SFits}
 use Rattle.std.specs.Int.{w32}
 use Rattle.std.proofs.lemmas.Int.{ints, to_z-of_z}

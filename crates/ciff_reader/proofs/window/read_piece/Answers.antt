@@ -1,4 +1,4 @@
-use Rattle.std.proofs.Common.{◌<◌, length, rules, arith}
+use Rattle.std.proofs.Common.{◌<◌, length, rules}
 use Rattle.ciff_reader.proofs.Windows.{next_piece}
 use Rattle.ciff_reader.proofs.window.read_piece.Goals as goal
 

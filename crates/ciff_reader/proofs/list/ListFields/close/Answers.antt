@@ -1,10 +1,10 @@
-use Rattle.std.proofs.Common.{◌≡◌, ◌∙◌, ℤ, Bool, true, false, IsTrue, List, ℕ, refl, sym, ap, subst, inl, inr, rules}
+use Rattle.std.proofs.Common.{◌≡◌, ◌∙◌, Bool, false, IsTrue, refl, sym, subst, inl, inr, rules}
 use mir.Val.{SFits}
 use Rattle.std.specs.Int.{w64}
 use Rattle.std.proofs.lemmas.Int.{to_z-of_z}
 use Rattle.std.proofs.lemmas.Bool.{false≢true}
 use Rattle.rgb_base.specs.declared.error.BuildError.{BuildError}
-use Rattle.rgb_base.specs.Building.{with_list, IsListFault as IsFaultOfList}
+use Rattle.rgb_base.specs.Building.{IsListFault as IsFaultOfList}
 use Rattle.ciff_reader.proofs.Closing.{as_said}
 use Rattle.ciff_reader.proofs.list.ListFields.close.Goals as goal
 

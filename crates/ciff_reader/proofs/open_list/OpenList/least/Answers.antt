@@ -1,4 +1,4 @@
-use Rattle.std.proofs.Common.{◌≡◌, ◌-◌, ◌^◌, ◌<◌, List, length, sym, subst, ap, arith}
+use Rattle.std.proofs.Common.{◌-◌, List, length, sym, subst, ap, arith}
 use Rattle.rgb_base.specs.declared.parts.Posting.{Posting}
 use Rattle.rgb_base.specs.Parts.{IsPostings}
 use Rattle.ciff_reader.specs.Open.{no_posting}

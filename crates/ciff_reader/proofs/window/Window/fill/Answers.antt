@@ -1,7 +1,7 @@
-use Rattle.std.proofs.Common.{◌≡◌, ℕ, ◌+◌, ◌-◌, ◌≤◌, List, ◌++◌, length, take, drop, refl, sym, ap, subst, ◌∙◌, arith}
-use Rattle.std.proofs.lemmas.List.{length-drop, append-nil}
+use Rattle.std.proofs.Common.{◌≡◌, ℕ, ◌+◌, ◌-◌, List, length, drop, refl, sym, subst, ◌∙◌, arith}
+use Rattle.std.proofs.lemmas.List.{length-drop}
 use Rattle.ciff_reader.specs.Window.{Held, IsFile, IsAt, IsAtEnd, IsNextPiece}
-use Rattle.ciff_reader.proofs.Windows.{grown_at, ended_at, ok_then, if_then, both}
+use Rattle.ciff_reader.proofs.Windows.{grown_at, ended_at, ok_then, if_then}
 use Rattle.ciff_reader.proofs.window.Window.fill.Goals as goal
 
 pub invariant_of-self : goal.invariant_of-self
